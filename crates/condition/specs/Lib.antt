@@ -1,0 +1,4 @@
+pub mod Cond
+pub mod Refusals
+pub mod Store
+pub mod Shapes

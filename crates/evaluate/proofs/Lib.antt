@@ -1,0 +1,5 @@
+pub mod Holding
+pub mod Renaming
+pub mod Few
+pub mod Freshness
+pub mod Bounded

@@ -1,0 +1,5 @@
+use Rattle.evaluate.proofs.few_decide.Needs as need
+use Rattle.evaluate.proofs.Few as proved
+
+pub returns : need.returns
+returns c = proved.few-decide

@@ -1,0 +1,9 @@
+// Lists with gaps in a slice of numbers.
+ghost use Rattle.list.specs.Lists.{All-at-once};
+
+// Any few lists of rows can be meant at once by one list with gaps: see specs/Lists.antt.
+pub fn all_at_once() -> u8
+    ensures { λ _. ⌜ All-at-once ⌝ }
+{
+    0
+}
