@@ -1,0 +1,5 @@
+use Rattle.answer.proofs.answer_right.Needs as need
+use Rattle.answer.proofs.Right as proved
+
+pub returns : need.returns
+returns c = proved.answer-right

@@ -1,0 +1,2 @@
+// Questions.
+pub fn nothing() -> u8 { 0 }
