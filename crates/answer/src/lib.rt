@@ -4,6 +4,8 @@
 // that the question gives on the lists so filled.
 ghost use Rattle.answer.specs.Promise.{Answer-right, Answer-exact, Asked-first, Same-answer, More-known, Nothing-left, Sure-in-one};
 
+ghost use Rattle.answer.specs.Baptisms.{Table, False-answers};
+
 use condition::Refusal;
 
 // What asking replies.
@@ -58,3 +60,16 @@ pub fn sure_in_one() -> u8
     0
 }
 
+// The worked example of baptisms and marriages: see specs/Baptisms.antt.
+
+pub fn baptism_table() -> u8
+    ensures { λ _. ⌜ Table ⌝ }
+{
+    0
+}
+
+pub fn false_answers() -> u8
+    ensures { λ _. ⌜ False-answers ⌝ }
+{
+    0
+}
