@@ -1,3 +1,4 @@
 pub mod Right
 pub mod Known
 pub mod Baptisms
+pub mod Numbers

@@ -2,3 +2,4 @@ pub mod Answer
 pub mod Promise
 pub mod Entry
 pub mod Baptisms
+pub mod Numbers

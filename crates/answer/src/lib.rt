@@ -4,6 +4,7 @@
 // that the question gives on the lists so filled.
 ghost use Rattle.answer.specs.Promise.{Answer-right, Answer-exact, Asked-first, Same-answer, More-known, Nothing-left, Sure-in-one};
 
+ghost use Rattle.answer.specs.Numbers.{Same-number};
 ghost use Rattle.answer.specs.Baptisms.{Table, False-answers};
 
 use condition::Refusal;
@@ -56,6 +57,13 @@ pub fn nothing_left() -> u8
 
 pub fn sure_in_one() -> u8
     ensures { λ _. ⌜ Sure-in-one ⌝ }
+{
+    0
+}
+
+// The number told is that of another and shorter list of the refusals: see specs/Numbers.antt.
+pub fn same_number() -> u8
+    ensures { λ _. ⌜ Same-number ⌝ }
 {
     0
 }
