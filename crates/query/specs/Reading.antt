@@ -9,14 +9,15 @@
 --   sized r            the question of a reading
 --   question-told      number 4 with its place
 --   size-told          number 5 with its place
+use mathlib.Core.Path.{_≡_}
 use mathlib.Core.Bool.{Bool, true, false, _&&_, cond as if}
 use mathlib.Core.List.{List, [], _∷_}
-use Prim.Native.Nat.{ℕ, zero, suc, _+_, _*_}
+use Prim.Native.Nat.{ℕ, zero, suc, _+_, _*_, _^_, _≤_, _<_}
 use lib.Dec.{eqb, ltb, leb}
 use lib.ListN.{length, getD, take, drop}
 use Rattle.condition.specs.Refusals.{Told, unless, first}
-use Rattle.std.specs.declared.option.Option.the-variants.{Some}
-use Rattle.list.specs.Layout.{shapes}
+use Rattle.std.specs.declared.option.Option.the-variants.{Some, None}
+use Rattle.list.specs.Layout.{shapes, lists-told}
 use Rattle.query.specs.Ask.{Test, same, differ, is, is-not, Query, table, keep, columns, join, union, without}
 
 pub data Sign : Type 0 where
@@ -136,3 +137,7 @@ question-told (bad sign) signs = Some (4, sign)
 
 abbrev pub size-told : Sized → Told
 size-told s = first (unless (leb (s .lines) 4096) 5 4097) (unless (leb (s .cost) 65536) 5 65537)
+
+-- Sixteen signs hold at most eight lists, of at most 64 lines each: lines and cost of a question fit 64 bits by far.
+abbrev pub Few-lines : Type 0
+Few-lines = (lists signs : List ℕ) → lists-told lists ≡ None → (sized (asked lists signs) .lines ≤ 2 ^ 48) × (sized (asked lists signs) .cost < 2 ^ 57)

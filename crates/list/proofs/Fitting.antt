@@ -1,0 +1,60 @@
+-- What is known of lists that are not refused.
+use mathlib.Core.Path.{_≡_, refl, sym, _∙_, ap}
+use mathlib.Core.Bool.{Bool, true, false, _&&_, cond as if}
+use mathlib.Core.List.{List}
+use Prim.Native.Nat.{ℕ, zero, suc, _≤_}
+use native.Mathlib.Omega.{arith}
+use lib.Dec.{eqb, leb}
+use lib.ListN.{length, getD, drop}
+use Rattle.std.proofs.shelf.Tests.{leb-true, eqb-true, and-parts}
+use Rattle.std.specs.declared.option.Option.the-variants.{None}
+use Rattle.condition.specs.Refusals.{first, unless}
+use Rattle.condition.proofs.Refusing.{first-none, unless-none}
+use Rattle.list.specs.Layout.{lines-at, columns-at, list-size, lines-fit, list-fits, passing, all-pass, lists-told, shapes-in}
+
+-- the shape of a list that fits
+pub record Fits (xs : List ℕ) : Type 0 where
+  pub some : 2 ≤ length xs
+  pub lines : lines-at xs ≤ 64
+  pub wide : 1 ≤ columns-at xs
+  pub narrow : columns-at xs ≤ 4
+  pub whole : list-size xs ≤ length xs
+  pub cells : lines-fit (lines-at xs) (columns-at xs) (drop 2 xs) ≡ true
+
+pub fits : (xs : List ℕ) → list-fits xs ≡ true → Fits xs
+unfolding list-fits
+fits xs e =
+    let a : (leb 2 (length xs) ≡ true) × _ = and-parts (leb 2 (length xs)) _ e in
+    let b : (leb (lines-at xs) 64 ≡ true) × _ = and-parts (leb (lines-at xs) 64) _ (a .1) in
+    let c : (leb 1 (columns-at xs) ≡ true) × _ = and-parts (leb 1 (columns-at xs)) _ (b .1) in
+    let d : (leb (columns-at xs) 4 ≡ true) × _ = and-parts (leb (columns-at xs) 4) _ (c .1) in
+    let f : (leb (list-size xs) (length xs) ≡ true) × _ = and-parts (leb (list-size xs) (length xs)) _ (d .1) in
+    record {
+        some = leb-true 2 (length xs) (a .0); lines = leb-true (lines-at xs) 64 (b .0); wide = leb-true 1 (columns-at xs) (c .0);
+        narrow = leb-true (columns-at xs) 4 (d .0); whole = leb-true (list-size xs) (length xs) (f .0); cells = f .1 }
+
+-- all of k+1 lists pass: the first does, and the others do
+pub pass-parts : (ok : List ℕ → Bool) (k : ℕ) (xs : List ℕ) → passing ok (suc k) xs ≡ suc k → (ok xs ≡ true) × (passing ok k (drop (list-size xs) xs) ≡ k)
+unfolding passing
+pass-parts ok k xs e = go (ok xs) refl e
+  where
+    go : (b : Bool) → ok xs ≡ b → if b (suc (passing ok k (drop (list-size xs) xs))) 0 ≡ suc k → (ok xs ≡ true) × (passing ok k (drop (list-size xs) xs) ≡ k)
+    go true t u = (t, omega arith)
+    go false t u = absurd (omega arith)
+
+pub shapes-small : (k : ℕ) (xs : List ℕ) → passing list-fits k xs ≡ k → (t : ℕ) → (getD (shapes-in k xs) t (0, 0) .0 ≤ 64) × (getD (shapes-in k xs) t (0, 0) .1 ≤ 4)
+unfolding shapes-in
+shapes-small zero xs e t = (omega arith, omega arith)
+shapes-small (suc k) xs e zero = let f : Fits xs = fits xs (pass-parts list-fits k xs e .0) in (f .lines, f .narrow)
+shapes-small (suc k) xs e (suc t) = shapes-small k (drop (list-size xs) xs) (pass-parts list-fits k xs e .1) t
+
+pub all-passed : (ok : List ℕ → Bool) (lists : List ℕ) (n : ℕ) → all-pass ok lists n ≡ None → passing ok (getD lists 0 0) (drop 2 lists) ≡ getD lists 0 0
+unfolding all-pass
+all-passed ok lists n e =
+    eqb-true (passing ok (getD lists 0 0) (drop 2 lists)) (getD lists 0 0)
+        (unless-none (eqb (passing ok (getD lists 0 0) (drop 2 lists)) (getD lists 0 0)) n (passing ok (getD lists 0 0) (drop 2 lists)) e)
+
+pub lists-passed : (lists : List ℕ) → lists-told lists ≡ None → passing list-fits (getD lists 0 0) (drop 2 lists) ≡ getD lists 0 0
+lists-passed lists e =
+    let p : (unless (leb 1 (getD lists 0 0)) 1 0 ≡ None) × _ = first-none (unless (leb 1 (getD lists 0 0)) 1 0) _ e in
+    all-passed list-fits lists 1 (first-none (unless (leb (getD lists 0 0) 8) 1 8) (all-pass list-fits lists 1) (p .1) .1)
