@@ -9,7 +9,7 @@ ghost use Rattle.std.specs.Vec.{made};
 ghost use Rattle.condition.specs.Cond.{Cond};
 ghost use Rattle.condition.specs.Store.{cell-in, has-name, comparison, node, count, store-told};
 ghost use Rattle.condition.specs.Refusals.{told, outcome};
-ghost use Rattle.condition.specs.Shapes.{cell-of, node-of};
+ghost use Rattle.condition.specs.Shapes.{cell-of, node-of, Named};
 
 // A number, or a gap by its name.
 #[derive(Clone, Copy)]
@@ -127,7 +127,8 @@ fn has_name(cell: Cell) -> bool
 
 // That two cells are equal; never where one is no gap of the 64.
 fn comparison(a: Cell, b: Cell) -> Node
-    ensures { λ r. ⌜ ((go : ℕ → Cond) → node-of r go ≡ comparison (cell-of a) (cell-of b)) ⌝ }
+    ensures is { λ r. ⌜ ((go : ℕ → Cond) → node-of r go ≡ comparison (cell-of a) (cell-of b)) ⌝ }
+    ensures named { λ r. ⌜ Named r ⌝ }
 {
     if has_name(a) && has_name(b) { Node::Equal(a, b) } else { Node::Never }
 }
@@ -135,7 +136,8 @@ fn comparison(a: Cell, b: Cell) -> Node
 // The node that the five numbers at i stand for.
 pub fn node_at(xs: &[u64], i: usize) -> Node
     requires { ⌜ i + 4 < length (now xs) ⌝ }
-    ensures { λ r. ⌜ ((go : ℕ → Cond) → node-of r go ≡ node (getD (now (xs .entry)) i 0) (getD (now (xs .entry)) (i + 1) 0) (getD (now (xs .entry)) (i + 2) 0) (getD (now (xs .entry)) (i + 3) 0) (getD (now (xs .entry)) (i + 4) 0) go) ⌝ }
+    ensures is { λ r. ⌜ ((go : ℕ → Cond) → node-of r go ≡ node (getD (now (xs .entry)) i 0) (getD (now (xs .entry)) (i + 1) 0) (getD (now (xs .entry)) (i + 2) 0) (getD (now (xs .entry)) (i + 3) 0) (getD (now (xs .entry)) (i + 4) 0) go) ⌝ }
+    ensures named { λ r. ⌜ Named r ⌝ }
 {
     match xs[i] {
         0 => Node::Always,

@@ -1,2 +1,3 @@
 pub mod Ask
 pub mod Reading
+pub mod Shapes
