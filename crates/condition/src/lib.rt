@@ -11,6 +11,11 @@ ghost use Rattle.condition.specs.Store.{cell-in, has-name, comparison, node, c
 ghost use Rattle.condition.specs.Refusals.{told, outcome};
 ghost use Rattle.condition.specs.Shapes.{cell-of, node-of, Named};
 
+mod display;
+
+pub use display::CellDisplay;
+pub use display::NodeDisplay;
+
 // A number, or a gap by its name.
 #[derive(Clone, Copy)]
 pub enum Cell {
