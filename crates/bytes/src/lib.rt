@@ -1,7 +1,11 @@
 // The binary format of the programs: numbers of four bytes, lists, nodes.
 ghost use mathlib.Core.Path.{_≡_};
 ghost use lib.ListN.{length, getD};
-ghost use Rattle.bytes.specs.Numbers.{number-at, Taken};
+ghost use Rattle.std.specs.Of.Vec.{vec-items};
+ghost use Rattle.std.specs.Vec.{made};
+ghost use mathlib.Core.Bool.{true};
+ghost use Rattle.bytes.specs.Numbers.{number-at, Taken, Read-on};
+use std::alloc::AllocError;
 
 // The bytes of a file that are left to read.
 #[derive(Clone, Copy)]
@@ -47,5 +51,18 @@ impl<'a> Input<'a> {
         let low = u64::from(rest[0]) + 256 * u64::from(rest[1]);
         let high = u64::from(rest[2]) + 256 * u64::from(rest[3]);
         Some(low + 65536 * high)
+    }
+
+    // Puts the next n numbers behind those in `numbers`; false where fewer are left.
+    pub fn numbers(&mut self, n: u64, numbers: &mut Vec<u64>) -> Result<bool, AllocError>
+        ensures { λ r. ⌜ made r (λ whole. whole ≡ true → Read-on n (now (now (self .entry) .rest)) (vec-items (now (numbers .entry))) (now (now (self .exit) .rest)) (vec-items (now (numbers .exit)))) ⌝ }
+    {
+        for _ in 0..n {
+            let Some(number) = self.number() else {
+                return Ok(false);
+            };
+            numbers.push(number)?;
+        }
+        Ok(true)
     }
 }
