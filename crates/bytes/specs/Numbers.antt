@@ -24,3 +24,7 @@ numbers-in (suc n) bs = number-at bs ∷ numbers-in n (drop 4 bs)
 
 abbrev pub Read-on : ℕ → (bs xs cs ys : List ℕ) → Type 0
 Read-on n bs xs cs ys = (ys ≡ xs ++ numbers-in n bs) × (cs ≡ drop (4 * n) bs) × (4 * n ≤ length bs)
+
+-- some numbers were read
+abbrev pub Read-some : (bs xs cs ys : List ℕ) → Type 0
+Read-some bs xs cs ys = (n : ℕ) × Read-on n bs xs cs ys
