@@ -25,11 +25,12 @@ read-one bs xs cs ys x l e d z = (z ∙ ap (λ (t : ℕ). xs ++ (t ∷ [])) e, d
 
 -- what is read in two goes
 pub read-both : (n m : ℕ) (bs xs cs ys ds zs : List ℕ) → Read-on n bs xs cs ys → Read-on m cs ys ds zs → Read-on (n + m) bs xs ds zs
-read-both n m bs xs cs ys ds zs r s =
-    (s .0 ∙ (ap (λ (t : List ℕ). t ++ numbers-in m cs) (r .0) ∙ (append-assoc xs (numbers-in n bs) (numbers-in m cs)
-        ∙ ap (λ (t : List ℕ). xs ++ t) (ap (λ (t : List ℕ). numbers-in n bs ++ numbers-in m t) (r .1) ∙ sym (numbers-add n m bs))))
-    , s .1 ∙ (ap (drop (4 * m)) (r .1) ∙ (drop-drop (4 * m) (4 * n) bs ∙ ap (λ (k : ℕ). drop k bs) (omega arith)))
-    , omega (arith, length-drop (4 * n) bs, ap length (r .1), r .2, s .2))
+read-both n m bs xs cs ys ds zs r s = (
+  s .0 ∙ (ap (λ (t : List ℕ). t ++ numbers-in m cs) (r .0) ∙ (append-assoc xs (numbers-in n bs) (numbers-in m cs)
+      ∙ ap (λ (t : List ℕ). xs ++ t) (ap (λ (t : List ℕ). numbers-in n bs ++ numbers-in m t) (r .1) ∙ sym (numbers-add n m bs)))),
+  s .1 ∙ (ap (drop (4 * m)) (r .1) ∙ (drop-drop (4 * m) (4 * n) bs ∙ ap (λ (k : ℕ). drop k bs) (omega arith))),
+  omega (arith, length-drop (4 * n) bs, ap length (r .1), r .2, s .2),
+)
 
 pub some-both : (bs xs cs ys ds zs : List ℕ) → Read-some bs xs cs ys → Read-some cs ys ds zs → Read-some bs xs ds zs
 some-both bs xs cs ys ds zs r s = (r .0 + s .0, read-both (r .0) (s .0) bs xs cs ys ds zs (r .1) (s .1))

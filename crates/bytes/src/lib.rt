@@ -68,7 +68,12 @@ impl<'a> Input<'a> {
     }
 
     // The next n numbers, put behind those in `numbers`; refused with `missing` where fewer are left.
-    pub fn numbers(&mut self, n: u64, numbers: &mut Vec<u64>, missing: Refusal) -> Result<(), Refusal>
+    pub fn numbers(
+        &mut self,
+        n: u64,
+        numbers: &mut Vec<u64>,
+        missing: Refusal,
+    ) -> Result<(), Refusal>
         ensures { λ r. ⌜ made r (λ _. Read-on n (now (now (self .entry) .rest)) (vec-items (now (numbers .entry))) (now (now (self .exit) .rest)) (vec-items (now (numbers .exit)))) ⌝ }
     {
         for _ in 0..n {

@@ -1,7 +1,6 @@
 // Cells and nodes as text.
 ghost use Rattle.std.specs.declared.option.Option.the-variants.{Some};
 ghost use Rattle.condition.specs.Text.{cell-text, node-text};
-
 use super::Cell;
 use super::Node;
 use std::fmt;
