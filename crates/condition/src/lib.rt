@@ -8,6 +8,7 @@ ghost use Rattle.condition.specs.declared.Refusal.the-variants.{NoMemory};
 use std::alloc::AllocError;
 use std::alloc::Refused;
 
+<<<<<<< HEAD
 mod reading;
 mod store;
 
@@ -20,16 +21,32 @@ mod display;
 
 pub use display::CellDisplay;
 pub use display::NodeDisplay;
+=======
+mod adding;
+mod finding;
+mod reading;
+mod store;
+
+pub use adding::add;
+pub use adding::append;
+pub use finding::find;
+pub use reading::cell_at;
+pub use reading::node_at;
+pub use store::MOST_NODES;
+pub use store::read_node;
+pub use store::room;
+pub use store::store_count;
+>>>>>>> helper-a
 
 // A number, or a gap by its name.
-#[derive(Clone, Copy)]
+#[derive(Clone, Copy, PartialEq, Eq)]
 pub enum Cell {
     Number(u64),
     Gap(u64),
 }
 
 // A node of a store: a condition over two cells, or over conditions at other places of the store.
-#[derive(Clone, Copy)]
+#[derive(Clone, Copy, PartialEq, Eq)]
 pub enum Node {
     Always,
     Never,
