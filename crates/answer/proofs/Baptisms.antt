@@ -30,7 +30,7 @@ books-filled v = refl
 mothers-shows : (x y z : ℕ) (r : Row) →
     stands r (ask mothers (rows x y z))
     ≡ (same-row r (two 1 20) || ((eqb x 10 && same-row r (two 2 20)) || ((eqb x 11 && same-row r (two 2 z))
-        || ((eqb y 10 && same-row r (two 3 20)) || (eqb y 11 && same-row r (two 3 z))))))
+    || ((eqb y 10 && same-row r (two 3 20)) || (eqb y 11 && same-row r (two 3 z))))))
 unfolding stands ask kept passes at-columns cut-to beside joined
 mothers-shows x y z r = grind arith
 
@@ -84,19 +84,23 @@ unfolding all-filled filled fill-cells holds stands ask kept passes at-columns c
 mothers-now r = ((sure-only, λ e v h. shown mothers (all-filled v books) r (two 1 20) e refl), (possible-only, possible))
   where
     sure-only : Sure fathers books mothers r → r ≡ two 1 20
-    sure-only s = elim (mothers-cases 10 5 0 r (s (numbers 10 5 0) refl))
-      [ inl e ↦ e
+    sure-only s = elim (mothers-cases 10 5 0 r (s (numbers 10 5 0) refl)) [
+      | inl e ↦ e
       | inr (inl (inl t)) ↦ absurd (false≢true (rw (t .1) at (s (numbers 11 5 0) refl)))
       | inr (inl (inr t)) ↦ absurd (false≢true (t .0))
       | inr (inr (inl t)) ↦ absurd (false≢true (t .0))
-      | inr (inr (inr t)) ↦ absurd (false≢true (t .0)) ]
+      | inr (inr (inr t)) ↦ absurd (false≢true (t .0))
+    ]
+
     possible-only : Possible fathers books mothers r → (r ≡ two 1 20) ⊎ ((n : ℕ) × ((r ≡ two 2 n) ⊎ (r ≡ two 3 n)))
-    possible-only p = elim (mothers-cases (p .0 0) (p .0 1) (p .0 2) r (p .2))
-      [ inl e ↦ inl e
+    possible-only p = elim (mothers-cases (p .0 0) (p .0 1) (p .0 2) r (p .2)) [
+      | inl e ↦ inl e
       | inr (inl (inl t)) ↦ inr (20, inl (t .1))
       | inr (inl (inr t)) ↦ inr (p .0 2, inl (t .1))
       | inr (inr (inl t)) ↦ inr (20, inr (t .1))
-      | inr (inr (inr t)) ↦ inr (p .0 2, inr (t .1)) ]
+      | inr (inr (inr t)) ↦ inr (p .0 2, inr (t .1))
+    ]
+
     possible : (r ≡ two 1 20) ⊎ ((n : ℕ) × ((r ≡ two 2 n) ⊎ (r ≡ two 3 n))) → Possible fathers books mothers r
     possible (inl e) = (numbers 10 5 0, refl, shown mothers (rows 10 5 0) r (two 1 20) e refl)
     possible (inr (n, inl e)) = (numbers 11 5 n, refl, shown mothers (rows 11 5 n) r (two 2 n) e (rw (eqb-self n) refl))
@@ -113,34 +117,41 @@ more-says v k n h = let p : (holds v fathers ≡ true) × (eqb (v k) n ≡ true)
 
 mothers-then :
     Decided (both fathers (equal (gap 2) (known 20))) mothers (λ r. (r ≡ two 1 20) ⊎ (r ≡ two 2 20))
-        (λ r. (r ≡ two 1 20) ⊎ ((r ≡ two 2 20) ⊎ (r ≡ two 3 20)))
+    (λ r. (r ≡ two 1 20) ⊎ ((r ≡ two 2 20) ⊎ (r ≡ two 3 20)))
 unfolding all-filled filled fill-cells holds stands ask kept passes at-columns cut-to beside joined same-row
 mothers-then r = ((sure-only, sure), (possible-only, possible))
   where
     what : Cond
     what = both fathers (equal (gap 2) (known 20))
+
     sure-only : Sure what books mothers r → (r ≡ two 1 20) ⊎ (r ≡ two 2 20)
-    sure-only s = elim (mothers-cases 10 5 20 r (s (numbers 10 5 20) refl))
-      [ inl e ↦ inl e
+    sure-only s = elim (mothers-cases 10 5 20 r (s (numbers 10 5 20) refl)) [
+      | inl e ↦ inl e
       | inr (inl (inl t)) ↦ inr (t .1)
       | inr (inl (inr t)) ↦ absurd (false≢true (t .0))
       | inr (inr (inl t)) ↦ absurd (false≢true (t .0))
-      | inr (inr (inr t)) ↦ absurd (false≢true (t .0)) ]
+      | inr (inr (inr t)) ↦ absurd (false≢true (t .0))
+    ]
+
     sure : (r ≡ two 1 20) ⊎ (r ≡ two 2 20) → Sure what books mothers r
     sure (inl e) v h = shown mothers (all-filled v books) r (two 1 20) e refl
     sure (inr e) v h =
         let k : (holds v fathers ≡ true) × (v 2 ≡ 20) = more-says v 2 20 h in
         let f = fathers-say v (k .0) in
         shown mothers (all-filled v books) r (two 2 20) e (mothers-shows (v 0) (v 1) (v 2) (two 2 20) ∙ grind (arith, tells))
+
     twenty : (v : Filling) (n : ℕ) → holds v what ≡ true → r ≡ two n (v 2) → r ≡ two n 20
     twenty v n h e = e ∙ ap (two n) (more-says v 2 20 h .1)
+
     possible-only : Possible what books mothers r → (r ≡ two 1 20) ⊎ ((r ≡ two 2 20) ⊎ (r ≡ two 3 20))
-    possible-only p = elim (mothers-cases (p .0 0) (p .0 1) (p .0 2) r (p .2))
-      [ inl e ↦ inl e
+    possible-only p = elim (mothers-cases (p .0 0) (p .0 1) (p .0 2) r (p .2)) [
+      | inl e ↦ inl e
       | inr (inl (inl t)) ↦ inr (inl (t .1))
       | inr (inl (inr t)) ↦ inr (inl (twenty (p .0) 2 (p .1) (t .1)))
       | inr (inr (inl t)) ↦ inr (inr (t .1))
-      | inr (inr (inr t)) ↦ inr (inr (twenty (p .0) 3 (p .1) (t .1))) ]
+      | inr (inr (inr t)) ↦ inr (inr (twenty (p .0) 3 (p .1) (t .1)))
+    ]
+
     possible : (r ≡ two 1 20) ⊎ ((r ≡ two 2 20) ⊎ (r ≡ two 3 20)) → Possible what books mothers r
     possible (inl e) = (numbers 10 5 20, refl, shown mothers (rows 10 5 20) r (two 1 20) e refl)
     possible (inr (inl e)) = (numbers 10 5 20, refl, shown mothers (rows 10 5 20) r (two 2 20) e refl)
@@ -162,10 +173,13 @@ unmarried-now r = ((λ s. false≢true (s (numbers 10 11 0) refl), λ n. absurd 
         let t : There (not (eqb (p .0 1) 10 || eqb (p .0 1) 11)) r (one (p .0 1)) = unmarried-only (p .0) r (p .1) (p .2) in
         let k : (eqb (p .0 1) 10 ≡ false) × (eqb (p .0 1) 11 ≡ false) = or-parts (eqb (p .0 1) 10) (eqb (p .0 1) 11) (not-true (eqb (p .0 1) 10 || eqb (p .0 1) 11) (t .0)) in
         (p .0 1, t .1, eqb-false (p .0 1) 10 (k .0), eqb-false (p .0 1) 11 (k .1))
+
     possible : ((n : ℕ) × (r ≡ one n) × (n ≡ 10 → ⊥) × (n ≡ 11 → ⊥)) → Possible fathers books unmarried r
-    possible (n, e, not10, not11) =
-        (numbers 10 n 0, rw (ne-eqb 10 n (λ p. not10 (sym p))) refl
-        , shown unmarried (rows 10 n 0) r (one n) e (unmarried-shows 10 n 0 (one n) ∙ rw (ne-eqb n 10 not10, ne-eqb n 11 not11, eqb-self n) refl))
+    possible (n, e, not10, not11) = (
+      numbers 10 n 0,
+      rw (ne-eqb 10 n (λ p. not10 (sym p))) refl,
+      shown unmarried (rows 10 n 0) r (one n) e (unmarried-shows 10 n 0 (one n) ∙ rw (ne-eqb n 10 not10, ne-eqb n 11 not11, eqb-self n) refl),
+    )
 
 unmarried-then : Decided (both fathers (equal (gap 1) (known 11))) unmarried (λ r. ⊥) (λ r. ⊥)
 unfolding all-filled filled fill-cells holds stands ask at-columns cut-to less same-row
@@ -186,10 +200,13 @@ children r = ((sure-only, λ e v h. shown (children-of 10) (all-filled v books) 
         ⊎-elim (λ h. inl (same-row-is r (one 1) h))
         (λ h. inr (⊎-elim (λ k. inl (there (eqb x 10) r (one 2) k)) (λ k. inr (there (eqb y 10) r (one 3) k)) (or-cases _ _ h)))
         (or-cases _ _ (sym (children-shows x y z r) ∙ e))
+
     sure-only : Sure fathers books (children-of 10) r → r ≡ one 1
     sure-only s = elim (cases 11 5 0 (s (numbers 11 5 0) refl)) [ inl e ↦ e | inr (inl t) ↦ absurd (false≢true (t .0)) | inr (inr t) ↦ absurd (false≢true (t .0)) ]
+
     possible-only : Possible fathers books (children-of 10) r → (r ≡ one 1) ⊎ ((r ≡ one 2) ⊎ (r ≡ one 3))
     possible-only p = elim (cases (p .0 0) (p .0 1) (p .0 2) (p .2)) [ inl e ↦ inl e | inr (inl t) ↦ inr (inl (t .1)) | inr (inr t) ↦ inr (inr (t .1)) ]
+
     possible : (r ≡ one 1) ⊎ ((r ≡ one 2) ⊎ (r ≡ one 3)) → Possible fathers books (children-of 10) r
     possible (inl e) = (numbers 10 5 0, refl, shown (children-of 10) (rows 10 5 0) r (one 1) e refl)
     possible (inr (inl e)) = (numbers 10 5 0, refl, shown (children-of 10) (rows 10 5 0) r (one 2) e refl)
@@ -198,32 +215,44 @@ children r = ((sure-only, λ e v h. shown (children-of 10) (all-filled v books) 
 -- a child of 10 is no child of 11 in these books, so the third question has the rows of the second
 children-less : Decided fathers (without (children-of 10) (children-of 11)) (λ r. r ≡ one 1) (λ r. (r ≡ one 1) ⊎ ((r ≡ one 2) ⊎ (r ≡ one 3)))
 unfolding all-filled filled fill-cells holds
-children-less r =
-    ((λ s. children r .0 .0 (λ v h. sym (alike-rows v) ∙ s v h), λ e v h. alike-rows v ∙ children r .0 .1 e v h)
-    , (λ p. children r .1 .0 (p .0, p .1, sym (alike-rows (p .0)) ∙ p .2), back))
+children-less r = (
+  (λ s. children r .0 .0 (λ v h. sym (alike-rows v) ∙ s v h), λ e v h. alike-rows v ∙ children r .0 .1 e v h),
+  (λ p. children r .1 .0 (p .0, p .1, sym (alike-rows (p .0)) ∙ p .2), back),
+)
   where
     alike-rows : (v : Filling) → stands r (ask (without (children-of 10) (children-of 11)) (all-filled v books)) ≡ stands r (ask (children-of 10) (all-filled v books))
     alike-rows v = children-less-shows (v 0) (v 1) (v 2) r ∙ sym (children-shows (v 0) (v 1) (v 2) r)
+
     back : (r ≡ one 1) ⊎ ((r ≡ one 2) ⊎ (r ≡ one 3)) → Possible fathers books (without (children-of 10) (children-of 11)) r
     back d = let p : Possible fathers books (children-of 10) r = children r .1 .1 d in (p .0, p .1, alike-rows (p .0) ∙ p .2)
 
 childless-men : Decided fathers childless (λ r. ⊥) (λ r. r ≡ one 11)
 unfolding all-filled filled fill-cells holds stands ask at-columns cut-to less same-row
-childless-men r =
-    ((λ s. false≢true (s (numbers 11 5 0) refl), λ n. absurd n)
-    , (λ p. there _ r (one 11) (sym (childless-shows (p .0 0) (p .0 1) (p .0 2) r) ∙ p .2) .1
-      , λ e. (numbers 10 5 0, refl, shown childless (rows 10 5 0) r (one 11) e refl)))
+childless-men r = (
+  (λ s. false≢true (s (numbers 11 5 0) refl), λ n. absurd n),
+  (
+    λ p. there _ r (one 11) (sym (childless-shows (p .0 0) (p .0 1) (p .0 2) r) ∙ p .2) .1,
+    λ e. (numbers 10 5 0, refl, shown childless (rows 10 5 0) r (one 11) e refl),
+  ),
+)
 
 pub table-stands : Table
 table-stands =
     record {
-        mothers-now = mothers-now; mothers-then = mothers-then; unmarried-now = unmarried-now; unmarried-then = unmarried-then;
-        children = children; children-less = children-less; childless-men = childless-men }
+      mothers-now = mothers-now;
+      mothers-then = mothers-then;
+      unmarried-now = unmarried-now;
+      unmarried-then = unmarried-then;
+      children = children;
+      children-less = children-less;
+      childless-men = childless-men;
+    }
 
 pub false-answers-stand : False-answers
 unfolding all-filled filled fill-cells holds stands ask kept passes at-columns cut-to beside joined same-row answer tested test-of cut-lines some-cells lines-joined line-beside all-under
 false-answers-stand =
     record {
-        empty = λ a. false≢true (a (numbers 10 5 0) refl (two 1 20));
-        nothing = λ a. false≢true (a (numbers 10 5 0) refl (two 1 20));
-        everything = λ a. false≢true (sym (a (numbers 11 5 0) refl (two 2 20))) }
+      empty = λ a. false≢true (a (numbers 10 5 0) refl (two 1 20));
+      nothing = λ a. false≢true (a (numbers 10 5 0) refl (two 1 20));
+      everything = λ a. false≢true (sym (a (numbers 11 5 0) refl (two 2 20)));
+    }

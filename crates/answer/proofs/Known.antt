@@ -21,9 +21,10 @@ pub more-known : More-known
 more-known what more ts q r = (λ s v h. s v (fits-less v what more h), λ p. (p .0, fits-less (p .0) what more (p .1), p .2))
 
 pub nothing-left : Nothing-left
-nothing-left what ts q r =
-    (λ none. (λ v h. absurd (both-ways (holds v what) (none v) h), λ p. both-ways (holds (p .0) what) (none (p .0)) (p .1))
-    , λ some s. (some .0, some .1, s (some .0) (some .1)))
+nothing-left what ts q r = (
+  λ none. (λ v h. absurd (both-ways (holds v what) (none v) h), λ p. both-ways (holds (p .0) what) (none (p .0)) (p .1)),
+  λ some s. (some .0, some .1, s (some .0) (some .1)),
+)
 
 pub sure-in-one : Sure-in-one
 sure-in-one what ts q out v r a h s = a v h r ∙ s v h

@@ -136,11 +136,14 @@ module _ (lists signs : List ℕ) where
           let z : length signs % 6 ≡ 0 = omega arith in
           inl (refl, and-from _ _ (le-leb (length signs) 96 (omega (arith, taken))) (and-from _ _ (eq-eqb (length signs % 6) 0 z) (ap plain.whole same ∙ none-left s rest m)), same)
       go false t =
-          inr (refl, refuted (λ w.
-              let k = whole-says w in
-              let m : length rest ≡ 0 = all-read s next rest (ap plain.whole (sym (ap unplaced e) ∙ sym (k .0)) ∙ k .2) in
-              let l : length signs ≤ 96 = k .1 in
-              eqb-false (6 * next) (length signs) t (omega (arith, taken))))
+          inr (
+            refl,
+            refuted (λ w.
+                let k = whole-says w in
+                let m : length rest ≡ 0 = all-read s next rest (ap plain.whole (sym (ap unplaced e) ∙ sym (k .0)) ∙ k .2) in
+                let l : length signs ≤ 96 = k .1 in
+                eqb-false (6 * next) (length signs) t (omega (arith, taken))),
+          )
 
   question-number : (later : Told) → Question-number (asked lists signs) later
   question-number later = question-is later (asked lists signs) refl (reads-placed 16 (shapes lists) 0 (length (take 96 signs)) (take 96 signs) (omega arith))
@@ -155,7 +158,7 @@ rest-told nodes out s = first (size-told s) (first (room-told nodes (s .cost + 2
 abbrev rest-refusal : (nodes out : List ℕ) (lines width cost : ℕ) → ℕ
 rest-refusal nodes out lines width cost =
     if (leb lines 4096 && leb cost 65536)
-        (if (leb (1 + 5 * (count nodes + cost + 2)) (length nodes)) (if (leb (lines * line-size width) (length out)) 0 7) 6) 5
+    (if (leb (1 + 5 * (count nodes + cost + 2)) (length nodes)) (if (leb (lines * line-size width) (length out)) 0 7) 6) 5
 
 rest-number : (nodes out : List ℕ) (s : Sized) → 1 + 5 * count nodes ≤ length nodes →
     (number (rest-told nodes out s) ≡ rest-refusal nodes out (s .lines) (s .width) (s .cost))
@@ -164,8 +167,10 @@ rest-number nodes out s l = go (leb (s .lines) 4096) (leb (s .cost) 65536) (case
   where
     seven : Told
     seven = unless (leb (answer-size s) (length out)) 7 (length out)
+
     full : leb (s .cost + 2) (room nodes) ≡ false → number (first (room-told nodes (s .cost + 2)) seven) ≡ 6
     full e = rw e refl
+
     fits : leb (s .cost + 2) (room nodes) ≡ leb (1 + 5 * (count nodes + s .cost + 2)) (length nodes) →
         number (first (room-told nodes (s .cost + 2)) seven) ≡ if (leb (1 + 5 * (count nodes + s .cost + 2)) (length nodes)) (if (leb (answer-size s) (length out)) 0 7) 6
     fits e = rw e (go (leb (1 + 5 * (count nodes + s .cost + 2)) (length nodes)) (leb (answer-size s) (length out)))
@@ -174,9 +179,10 @@ rest-number nodes out s l = go (leb (s .lines) 4096) (leb (s .cost) 65536) (case
         go true true = refl
         go true false = refl
         go false b = refl
+
     go : (a b : Bool) → (131072 < count nodes + s .cost + 2) ⊎ (count nodes + s .cost + 2 ≤ 131072) →
         (number (first (first (unless a 5 4097) (unless b 5 65537)) (first (room-told nodes (s .cost + 2)) seven))
-            ≡ if (a && b) (if (leb (1 + 5 * (count nodes + s .cost + 2)) (length nodes)) (if (leb (answer-size s) (length out)) 0 7) 6) 5)
+        ≡ if (a && b) (if (leb (1 + 5 * (count nodes + s .cost + 2)) (length nodes)) (if (leb (answer-size s) (length out)) 0 7) 6) 5)
         ⊎ ((number (first (first (unless a 5 4097) (unless b 5 65537)) (first (room-told nodes (s .cost + 2)) seven)) ≡ 6) × (131072 < count nodes + s .cost + 2))
     go true true (inl h) = inr (full (lt-leb (s .cost + 2) (room nodes) (omega arith)), h)
     go true true (inr h) = inl (fits (room-same nodes (s .cost + 2) l (omega arith) ∙ ap (λ (n : ℕ). leb (1 + 5 * n) (length nodes)) (omega arith)))
@@ -206,11 +212,12 @@ sizes nodes out (bad sign) = refl
 
 like-question : (lists signs nodes out : List ℕ) → 1 + 5 * count nodes ≤ length nodes →
     Like (131072 < count nodes + (question lists signs) .cost + 2)
-        (number (first (question-told (asked lists signs) signs) (rest-told nodes out (question lists signs))))
-        (if (whole-signs lists signs) (rest-refusal nodes out (plain.lines-of (plain.asked lists signs)) (plain.width-of (plain.asked lists signs)) (plain.cost-of (plain.asked lists signs))) 4)
-like-question lists signs nodes out l = elim (question-number lists signs (rest-told nodes out (question lists signs)))
-  [ inl q ↦ rw (q .0, q .1, q .2, sizes nodes out (asked lists signs)) (⊎-elim inl (λ h. inr (inr h)) (rest-number nodes out (question lists signs) l))
-  | inr q ↦ inl (rw (q .0, q .1) refl) ]
+    (number (first (question-told (asked lists signs) signs) (rest-told nodes out (question lists signs))))
+    (if (whole-signs lists signs) (rest-refusal nodes out (plain.lines-of (plain.asked lists signs)) (plain.width-of (plain.asked lists signs)) (plain.cost-of (plain.asked lists signs))) 4)
+like-question lists signs nodes out l = elim (question-number lists signs (rest-told nodes out (question lists signs))) [
+  | inl q ↦ rw (q .0, q .1, q .2, sizes nodes out (asked lists signs)) (⊎-elim inl (λ h. inr (inr h)) (rest-number nodes out (question lists signs) l))
+  | inr q ↦ inl (rw (q .0, q .1) refl)
+]
 
 pub same-number : Same-number
 unfolding all-pass
@@ -221,5 +228,5 @@ same-number lists signs nodes out =
     let P : Type 0 = 131072 < count nodes + (question lists signs) .cost + 2 in
     rw (lists-same k (drop 2 lists), lists-number)
     (like-store P (leb 1 k && (leb k 8 && eqb (passing list-fits k (drop 2 lists)) k)) (store-fits nodes) (count nodes) (first (named-told lists nodes) last) _
-        (λ e. like-named P (eqb named k) (ltb (getD lists 1 0) (count nodes)) named last _
-            (like-question lists signs nodes out (leb-true (1 + 5 * count nodes) (length nodes) (and-parts (leb (count nodes) 131072) (leb (1 + 5 * count nodes) (length nodes)) e .1)))))
+    (λ e. like-named P (eqb named k) (ltb (getD lists 1 0) (count nodes)) named last _
+    (like-question lists signs nodes out (leb-true (1 + 5 * count nodes) (length nodes) (and-parts (leb (count nodes) 131072) (leb (1 + 5 * count nodes) (length nodes)) e .1)))))

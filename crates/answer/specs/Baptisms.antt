@@ -61,7 +61,7 @@ pub record Table : Type 0 where
   -- once g2 is known to be 20: sure 1 20 and 2 20; possible besides 3 20
   pub mothers-then :
       Decided (both fathers (equal (gap 2) (known 20))) mothers (λ r. (r ≡ two 1 20) ⊎ (r ≡ two 2 20))
-          (λ r. (r ≡ two 1 20) ⊎ ((r ≡ two 2 20) ⊎ (r ≡ two 3 20)))
+      (λ r. (r ≡ two 1 20) ⊎ ((r ≡ two 2 20) ⊎ (r ≡ two 3 20)))
   -- sure none; possible any number but 10 and 11
   pub unmarried-now : Decided fathers unmarried (λ r. ⊥) (λ r. (n : ℕ) × (r ≡ one n) × (n ≡ 10 → ⊥) × (n ≡ 11 → ⊥))
   -- once g1 is known to be 11: none

@@ -49,7 +49,7 @@ by-kind (suc (suc (suc (suc zero)))) ss xs go =
     next (go (drop 5 xs)) (λ q n w c ys. ok (ltb (getD xs 0 0) w) (read (keep (is-not (getD xs 0 0) (getD xs 1 0)) q) n w (c + 3 * n) ys))
 by-kind (suc (suc (suc (suc (suc zero))))) ss xs go =
     next (go (drop 5 xs)) (λ q n w c ys. ok (leb 1 (getD xs 0 0) && (leb (getD xs 0 0) 4 && all-below w (take (getD xs 0 0) (drop 1 xs))))
-        (read (columns (take (getD xs 0 0) (drop 1 xs)) q) n (getD xs 0 0) c ys))
+    (read (columns (take (getD xs 0 0) (drop 1 xs)) q) n (getD xs 0 0) c ys))
 by-kind (suc (suc (suc (suc (suc (suc zero)))))) ss xs go =
     next (go (drop 5 xs)) (λ p n w c ys. next (go ys) (λ q m v d zs. ok (leb (w + v) 8) (read (join p q) (n * m) (w + v) (c + d + n * m) zs)))
 by-kind (suc (suc (suc (suc (suc (suc (suc zero))))))) ss xs go =
@@ -86,11 +86,11 @@ whole bad = false
 abbrev pub refusal : (lists signs nodes out : List ℕ) → ℕ
 refusal lists signs nodes out =
     if (leb 1 (getD lists 0 0) && (leb (getD lists 0 0) 8 && lists-fit (getD lists 0 0) (drop 2 lists)))
-        (if (leb (count nodes) 131072 && leb (1 + 5 * count nodes) (length nodes))
-            (if (leb (length signs) 96 && (eqb (length signs % 6) 0 && whole (asked lists signs)))
-                (if (leb (lines-of (asked lists signs)) 4096 && leb (cost-of (asked lists signs)) 65536)
-                    (if (leb (1 + 5 * (count nodes + cost-of (asked lists signs) + 2)) (length nodes))
-                        (if (leb (lines-of (asked lists signs) * line-size (width-of (asked lists signs))) (length out)) 0 7) 6) 5) 4) 2) 1
+    (if (leb (count nodes) 131072 && leb (1 + 5 * count nodes) (length nodes))
+    (if (leb (length signs) 96 && (eqb (length signs % 6) 0 && whole (asked lists signs)))
+    (if (leb (lines-of (asked lists signs)) 4096 && leb (cost-of (asked lists signs)) 65536)
+    (if (leb (1 + 5 * (count nodes + cost-of (asked lists signs) + 2)) (length nodes))
+    (if (leb (lines-of (asked lists signs) * line-size (width-of (asked lists signs))) (length out)) 0 7) 6) 5) 4) 2) 1
 
 -- the same number; or 3, for a node that does not stand; or 6, for a store that would pass 131,072 nodes
 abbrev pub Same-number : Type 0

@@ -3,10 +3,8 @@
 // The answer to a question is a list with gaps of its own. Filled in any way that fits what is known, it has exactly the rows
 // that the question gives on the lists so filled.
 ghost use Rattle.answer.specs.Promise.{Answer-right, Answer-exact, Asked-first, Same-answer, More-known, Nothing-left, Sure-in-one};
-
 ghost use Rattle.answer.specs.Numbers.{Same-number};
 ghost use Rattle.answer.specs.Baptisms.{Table, False-answers};
-
 use condition::Refusal;
 
 // What asking replies.

@@ -3,13 +3,18 @@
 // A store is the count of its nodes and then five numbers a node. Numbers are turned into `Cell` and `Node` here and
 // nowhere else.
 ghost use mathlib.Core.Path.{_≡_};
-ghost use Prim.Native.Nat.{ℕ, _+_, _*_, _<_, _≤_};
-ghost use lib.ListN.{length, getD};
-ghost use Rattle.std.specs.Vec.{made};
-ghost use Rattle.condition.specs.Cond.{Cond};
-ghost use Rattle.condition.specs.Store.{cell-in, has-name, comparison, node, count, store-told};
-ghost use Rattle.condition.specs.Refusals.{told, outcome};
-ghost use Rattle.condition.specs.Shapes.{cell-of, node-of, Named};
+ghost use Rattle.condition.specs.Refusals.{told};
+ghost use Rattle.condition.specs.declared.Refusal.the-variants.{NoMemory};
+use std::alloc::AllocError;
+use std::alloc::Refused;
+
+mod reading;
+mod store;
+
+pub use reading::cell_at;
+pub use reading::node_at;
+pub use store::MOST_NODES;
+pub use store::store_count;
 
 // A number, or a gap by its name.
 #[derive(Clone, Copy)]
@@ -89,62 +94,20 @@ impl Refusal {
     }
 }
 
-// The most nodes that a store may have.
-pub const MOST_NODES: u64 = 131072;
+// Want of memory, from a call that allocates.
+pub impl From<AllocError> for Refusal as RefusalFromAllocError {
+    ghost converts = { λ _ r. r ≡ NoMemory };
 
-// How many nodes stand in a store, or why it is none.
-pub fn store_count(nodes: &[u64]) -> Result<u64, Refusal>
-    ensures refusal { λ r. ⌜ outcome r ≡ store-told (now (nodes .entry)) ⌝ }
-    ensures value { λ r. ⌜ made r (λ n. (n ≡ count (now (nodes .entry))) × (n ≤ 131072) × (1 + 5 * n ≤ length (now (nodes .entry)))) ⌝ }
-{
-    if nodes.len() == 0 {
-        return Err(Refusal::BadStore(0));
-    }
-    let count = nodes[0];
-    if count > MOST_NODES || 1 + 5 * count > nodes.len() as u64 {
-        return Err(Refusal::BadStore(count));
-    }
-    Ok(count)
-}
-
-// The cell that the two numbers at i stand for.
-pub fn cell_at(xs: &[u64], i: usize) -> Cell
-    requires { ⌜ i + 1 < length (now xs) ⌝ }
-    ensures { λ r. ⌜ cell-of r ≡ cell-in (getD (now (xs .entry)) i 0) (getD (now (xs .entry)) (i + 1) 0) ⌝ }
-{
-    if xs[i] == 0 { Cell::Number(xs[i + 1]) } else { Cell::Gap(xs[i + 1]) }
-}
-
-// Whether a cell is a number or one of the 64 gaps.
-fn has_name(cell: Cell) -> bool
-    ensures { λ r. ⌜ r ≡ has-name (cell-of cell) ⌝ }
-{
-    match cell {
-        Cell::Number(_) => true,
-        Cell::Gap(k) => k < 64,
+    fn from(_e: AllocError) -> Refusal {
+        Refusal::NoMemory
     }
 }
 
-// That two cells are equal; never where one is no gap of the 64.
-fn comparison(a: Cell, b: Cell) -> Node
-    ensures is { λ r. ⌜ ((go : ℕ → Cond) → node-of r go ≡ comparison (cell-of a) (cell-of b)) ⌝ }
-    ensures named { λ r. ⌜ Named r ⌝ }
-{
-    if has_name(a) && has_name(b) { Node::Equal(a, b) } else { Node::Never }
-}
+// Want of memory, from a call that keeps a value.
+pub impl<T: Drop> From<Refused<T>> for Refusal as RefusalFromRefused {
+    ghost converts = { λ _ r. r ≡ NoMemory };
 
-// The node that the five numbers at i stand for.
-pub fn node_at(xs: &[u64], i: usize) -> Node
-    requires { ⌜ i + 4 < length (now xs) ⌝ }
-    ensures is { λ r. ⌜ ((go : ℕ → Cond) → node-of r go ≡ node (getD (now (xs .entry)) i 0) (getD (now (xs .entry)) (i + 1) 0) (getD (now (xs .entry)) (i + 2) 0) (getD (now (xs .entry)) (i + 3) 0) (getD (now (xs .entry)) (i + 4) 0) go) ⌝ }
-    ensures named { λ r. ⌜ Named r ⌝ }
-{
-    match xs[i] {
-        0 => Node::Always,
-        1 => Node::Never,
-        2 => comparison(cell_at(xs, i + 1), cell_at(xs, i + 3)),
-        3 => Node::Not(xs[i + 1]),
-        4 => Node::Both(xs[i + 1], xs[i + 2]),
-        _ => Node::Either(xs[i + 1], xs[i + 2]),
+    fn from(_e: Refused<T>) -> Refusal {
+        Refusal::NoMemory
     }
 }

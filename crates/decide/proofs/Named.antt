@@ -67,11 +67,12 @@ module _ (w : Filling) (n : ℕ) (none : (k : ℕ) → w k ≡ n → ⊥) where
   no-rows [] r h s = absurd (both-ways false refl s)
   no-rows (l ∷ ls) r h s =
       let p : (has (numbers-in (l .cells)) n ≡ false) × (has (numbers-in (cells-in-lines ls)) n ≡ false) =
-              lacks-parts (numbers-in (l .cells)) (numbers-in (cells-in-lines ls)) n (rw (numbers-app (l .cells) (cells-in-lines ls)) at h) in
+      lacks-parts (numbers-in (l .cells)) (numbers-in (cells-in-lines ls)) n (rw (numbers-app (l .cells) (cells-in-lines ls)) at h) in
       go (no-cells (l .cells) (p .0)) (no-rows ls r (p .1)) (holds w (l .if-so)) s
     where
       here : has (fill-cells w (l .cells)) n ≡ false → same-row r (fill-cells w (l .cells)) ≡ true → has r n ≡ false
       here e t = ap (λ (x : Row). has x n) (same-row-is r (fill-cells w (l .cells)) t) ∙ e
+
       go : has (fill-cells w (l .cells)) n ≡ false → (stands r (filled w ls) ≡ true → has r n ≡ false) → (b : Bool) →
           stands r (if b (fill-cells w (l .cells) ∷ filled w ls) (filled w ls)) ≡ true → has r n ≡ false
       go e ih true u = ⊎-elim (here e) ih (or-cases (same-row r (fill-cells w (l .cells))) (stands r (filled w ls)) u)
@@ -82,16 +83,20 @@ sure-by-name what ts q out r n a some s h = ⊎-elim (λ e. e) (λ e. absurd (bo
   where
     v : Filling
     v = some .0
+
     m : ℕ
     m = suc (n + (above (λ k. k) (numbers what) + above v (gaps what)))
+
     w : Filling
     w k = out-of n m (v k)
+
     still : has (numbers what) n ≡ false → holds w what ≡ true
     still e =
         holds-rename (λ x. x < m) (out-of n m) v (out-of-apart n m) what
-            (λ x i. (omega (arith, below-above (λ k. k) (numbers what) x i), out-of-other n m x (ne-eqb x n (has-apart (numbers what) x n i e))))
-            (λ k i. omega (arith, below-above v (gaps what) k i))
+        (λ x i. (omega (arith, below-above (λ k. k) (numbers what) x i), out-of-other n m x (ne-eqb x n (has-apart (numbers what) x n i e))))
+        (λ k i. omega (arith, below-above v (gaps what) k i))
         ∙ some .1
+
     gone : has (numbers what ++ numbers-in (cells-in-lines out)) n ≡ false → has r n ≡ false
     gone e =
         let p : (has (numbers what) n ≡ false) × (has (numbers-in (cells-in-lines out)) n ≡ false) = lacks-parts (numbers what) (numbers-in (cells-in-lines out)) n e in

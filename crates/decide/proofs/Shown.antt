@@ -65,10 +65,13 @@ module _ (what : Cond) (ts : List (List Line)) (q : Query) (out : List Line) (r 
       (h .0, asked-as v (h .0) ∙ h .1)
 
 pub by-condition : By-condition
-by-condition what ts q out r a =
-    ((λ s v. never-lacks what ts q out r a v (s v), no-sure what ts q out r a)
-    , (λ p. (p .0, both-fits what ts q out r a (p .0) (p .1) (p .2))
-      , λ p. let h : (holds (p .0) what ≡ true) × (stands r (ask q (all-filled (p .0) ts)) ≡ true) = fits-both what ts q out r a (p .0) (p .1) in (p .0, h .0, h .1)))
+by-condition what ts q out r a = (
+  (λ s v. never-lacks what ts q out r a v (s v), no-sure what ts q out r a),
+  (
+    λ p. (p .0, both-fits what ts q out r a (p .0) (p .1) (p .2)),
+    λ p. let h : (holds (p .0) what ≡ true) × (stands r (ask q (all-filled (p .0) ts)) ≡ true) = fits-both what ts q out r a (p .0) (p .1) in (p .0, h .0, h .1),
+  ),
+)
 
 disagree : (v : Filling) (cs : List Cell) (r : Row) → agrees cs r ≡ false → holds v (gives cs r) ≡ false
 unfolding agrees gives holds
@@ -90,16 +93,21 @@ deciding-enough v (l ∷ ls) r = go (deciding-enough v ls r) (agrees (l .cells) 
 
 pub decided-within-64-bits : Decided-within-64-bits
 unfolding cells-of
-decided-within-64-bits what ts q out r ns gs a named held low room =
-    ((λ s v b h. s v h
-      , λ s. no-sure what ts q out r a (λ v.
-          let w : (w : Filling) × Below (2 ^ 64) w × (holds w (both what (not-so (shows out r))) ≡ holds v (both what (not-so (shows out r)))) =
-                  within-64-bits (both what (not-so (shows out r))) v ns gs named held low room in
-          sym (w .2) ∙ never-lacks what ts q out r a (w .0) (s (w .0) (w .1))))
-    , (λ p.
-          let w : (w : Filling) × Below (2 ^ 64) w × (holds w (both what (shows out r)) ≡ holds (p .0) (both what (shows out r))) =
-                  within-64-bits (both what (shows out r)) (p .0) ns gs named held low room in
-          let h : (holds (w .0) what ≡ true) × (stands r (ask q (all-filled (w .0) ts)) ≡ true) =
-                  fits-both what ts q out r a (w .0) (w .2 ∙ both-fits what ts q out r a (p .0) (p .1) (p .2)) in
-          (w .0, w .1, h .0, h .1)
-      , λ p. (p .0, p .2, p .3)))
+decided-within-64-bits what ts q out r ns gs a named held low room = (
+  (
+    λ s v b h. s v h,
+    λ s. no-sure what ts q out r a (λ v.
+        let w : (w : Filling) × Below (2 ^ 64) w × (holds w (both what (not-so (shows out r))) ≡ holds v (both what (not-so (shows out r)))) =
+        within-64-bits (both what (not-so (shows out r))) v ns gs named held low room in
+        sym (w .2) ∙ never-lacks what ts q out r a (w .0) (s (w .0) (w .1))),
+  ),
+  (
+    λ p.
+        let w : (w : Filling) × Below (2 ^ 64) w × (holds w (both what (shows out r)) ≡ holds (p .0) (both what (shows out r))) =
+        within-64-bits (both what (shows out r)) (p .0) ns gs named held low room in
+        let h : (holds (w .0) what ≡ true) × (stands r (ask q (all-filled (w .0) ts)) ≡ true) =
+        fits-both what ts q out r a (w .0) (w .2 ∙ both-fits what ts q out r a (p .0) (p .1) (p .2)) in
+        (w .0, w .1, h .0, h .1),
+    λ p. (p .0, p .2, p .3),
+  ),
+)

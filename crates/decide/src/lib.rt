@@ -26,4 +26,3 @@ pub fn decided_within_64_bits() -> u8
 {
     0
 }
-

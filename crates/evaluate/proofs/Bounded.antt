@@ -44,10 +44,11 @@ pub bounded : (b : ℕ) (c : Cond) (v : Filling) (ns gs : List ℕ) → Within (
     length ns + length gs ≤ b → (w : Filling) × Below b w × (holds w c ≡ holds v c)
 bounded b c v ns gs named held low some room =
     let f : (fs : List ℕ) × Fresh ns (length gs) fs × ((i : ℕ) → i < length fs → getD fs i 0 < length ns + length gs) = fresh-small ns (length gs) in
-    let w : (w : Filling) × Drawn gs (ns ++ f .0) w × (holds w c ≡ holds v c) = few-over c v ns gs (f .0) named held (f .1) in
-    (only gs (w .0)
-    , only-below b ns gs (f .0) (w .0) (w .1) low (all-has (λ n. n < b) (f .0) (λ i l. omega (arith, f .2 i l))) some
-    , only-holds c gs (w .0) held ∙ w .2)
+    let w : (w : Filling) × Drawn gs (ns ++ f .0) w × (holds w c ≡ holds v c) = few-over c v ns gs (f .0) named held (f .1) in (
+      only gs (w .0),
+      only-below b ns gs (f .0) (w .0) (w .1) low (all-has (λ n. n < b) (f .0) (λ i l. omega (arith, f .2 i l))) some,
+      only-holds c gs (w .0) held ∙ w .2,
+    )
 
 pub within-64-bits : Within-64-bits
 within-64-bits c v ns gs named held low room = bounded (2 ^ 64) c v ns gs named held low (omega arith) room

@@ -84,17 +84,18 @@ module _ (ns gs fs : List ℕ) (v : Filling) (new : Fresh ns (length gs) fs) whe
 pub few-over : Few-over
 unfolding Within
 few-over c v ns gs fs named held new =
-    let φ : ℕ → ℕ = moved ns gs fs v new in
-    (λ k. φ (v k)
-    , λ k e. moved-drawn ns gs fs v new (v k) (found gs v (v k) k e refl)
-    , holds-rename (Seen ns gs fs v new) φ v (moved-apart ns gs fs v new) c
-        (λ n e. (inl (named n e), moved-named ns gs fs v new n (named n e)))
-        (λ k e. inr (found gs v (v k) k (held k e) refl)))
+    let φ : ℕ → ℕ = moved ns gs fs v new in (
+      λ k. φ (v k),
+      λ k e. moved-drawn ns gs fs v new (v k) (found gs v (v k) k e refl),
+      holds-rename (Seen ns gs fs v new) φ v (moved-apart ns gs fs v new) c
+          (λ n e. (inl (named n e), moved-named ns gs fs v new n (named n e)))
+          (λ k e. inr (found gs v (v k) k (held k e) refl)),
+    )
 
 pub few-numbers : Few-numbers
 few-numbers c v fs h new =
     let w : (w : Filling) × Drawn (gaps c) (numbers c ++ fs) w × (holds w c ≡ holds v c) =
-            few-over c v (numbers c) (gaps c) fs (within-self (numbers c)) (within-self (gaps c)) new in
+    few-over c v (numbers c) (gaps c) fs (within-self (numbers c)) (within-self (gaps c)) new in
     (w .0, w .1, w .2 ∙ h)
 
 pub few-decide : Few-decide

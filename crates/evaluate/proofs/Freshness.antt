@@ -121,8 +121,8 @@ unfolding clear
 clear-new [] n k h = absurd (has-none k h)
 clear-new (m ∷ ms) n k h =
     ⊎-elim (λ e. ap (has (strike m (clear ms (suc n)))) (sym (eqb-true m k e)) ∙ struck-gone m (clear ms (suc n)) (clear-apart ms (suc n)))
-        (λ u. struck-lacks m (clear ms (suc n)) k (clear-new ms (suc n) k u))
-        (or-cases (eqb m k) (has ms k) (sym (has-cons m ms k) ∙ h))
+    (λ u. struck-lacks m (clear ms (suc n)) k (clear-new ms (suc n) k u))
+    (or-cases (eqb m k) (has ms k) (sym (has-cons m ms k) ∙ h))
 
 at-apart : (xs : List ℕ) → Apart xs → (i j : ℕ) → i < length xs → j < length xs → getD xs i 0 ≡ getD xs j 0 → i ≡ j
 at-apart [] a i j p q e = absurd (omega arith)
@@ -132,10 +132,11 @@ at-apart (x ∷ xs) a (suc i) zero p q e = absurd (has-apart xs (getD xs i 0) x 
 at-apart (x ∷ xs) a (suc i) (suc j) p q e = ap suc (at-apart xs (a .1) i j (omega arith) (omega arith) e)
 
 pub fresh-small : Fresh-small
-fresh-small ms n =
-    (clear ms n
-    , record { many = clear-length ms n; new = λ i h. new i h (cases-bool (has ms (getD (clear ms n) i 0))); different = at-apart (clear ms n) (clear-apart ms n) }
-    , λ i h. clear-below ms n (getD (clear ms n) i 0) (has-at (clear ms n) i h))
+fresh-small ms n = (
+  clear ms n,
+  record { many = clear-length ms n; new = λ i h. new i h (cases-bool (has ms (getD (clear ms n) i 0))); different = at-apart (clear ms n) (clear-apart ms n) },
+  λ i h. clear-below ms n (getD (clear ms n) i 0) (has-at (clear ms n) i h),
+)
   where
     new : (i : ℕ) → i < length (clear ms n) → (has ms (getD (clear ms n) i 0) ≡ true) ⊎ (has ms (getD (clear ms n) i 0) ≡ false) → has ms (getD (clear ms n) i 0) ≡ false
     new i h (inl e) = absurd (both-ways (has (clear ms n) (getD (clear ms n) i 0)) (clear-new ms n (getD (clear ms n) i 0) e) (has-at (clear ms n) i h))

@@ -44,11 +44,15 @@ holds-alike v w never h = refl
 holds-alike v w (equal a b) h = h a b (inl refl) (inr (inl refl))
 holds-alike v w (not-so c) h = ap not (holds-alike v w c h)
 holds-alike v w (both c d) h =
-    cc (holds-alike v w c (λ a b p q. h a b (one-left a (cells-of c) (cells-of d) p) (one-left b (cells-of c) (cells-of d) q)),
-        holds-alike v w d (λ a b p q. h a b (one-right a (cells-of c) (cells-of d) p) (one-right b (cells-of c) (cells-of d) q)))
+    cc (
+      holds-alike v w c (λ a b p q. h a b (one-left a (cells-of c) (cells-of d) p) (one-left b (cells-of c) (cells-of d) q)),
+      holds-alike v w d (λ a b p q. h a b (one-right a (cells-of c) (cells-of d) p) (one-right b (cells-of c) (cells-of d) q)),
+    )
 holds-alike v w (either c d) h =
-    cc (holds-alike v w c (λ a b p q. h a b (one-left a (cells-of c) (cells-of d) p) (one-left b (cells-of c) (cells-of d) q)),
-        holds-alike v w d (λ a b p q. h a b (one-right a (cells-of c) (cells-of d) p) (one-right b (cells-of c) (cells-of d) q)))
+    cc (
+      holds-alike v w c (λ a b p q. h a b (one-left a (cells-of c) (cells-of d) p) (one-left b (cells-of c) (cells-of d) q)),
+      holds-alike v w d (λ a b p q. h a b (one-right a (cells-of c) (cells-of d) p) (one-right b (cells-of c) (cells-of d) q)),
+    )
 
 -- cells replaced by others that have the same number
 pub holds-each : (v : Filling) (f : Cell → Cell) → ((a : Cell) → fill-cell v (f a) ≡ fill-cell v a) → (c : Cond) → holds v (each-cell f c) ≡ holds v c

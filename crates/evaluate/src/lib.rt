@@ -4,7 +4,6 @@ ghost use Rattle.condition.specs.Shapes.{cell-of};
 ghost use Rattle.evaluate.specs.Filling.{fill-cell};
 ghost use Rattle.evaluate.specs.Shapes.{numbers-of};
 ghost use Rattle.evaluate.specs.Enough.{Own-gaps, Few-numbers, Few-over, Few-decide, Fresh-small, Within-64-bits};
-
 use condition::Cell;
 
 // A number for each gap.
@@ -18,7 +17,11 @@ impl Filling {
     pub fn number(self, gap: u64) -> u64
         ensures { λ r. ⌜ r ≡ numbers-of self gap ⌝ }
     {
-        if gap < 64 { self.numbers[gap as usize] } else { 0 }
+        if gap < 64 {
+            self.numbers[gap as usize]
+        } else {
+            0
+        }
     }
 
     // The number of a cell.

@@ -41,4 +41,4 @@ module _ (v : Filling) (k n : ℕ) (is : v k ≡ n) where
 pub written-over : Written-over
 written-over ts q k n v e r =
     ap (stands r)
-        (answer-filled v q (write-lists k n ts) ∙ (ap (ask q) (all-write v k n e ts) ∙ (sym (answer-filled v q ts) ∙ sym (filled-write v k n e (answer q ts)))))
+    (answer-filled v q (write-lists k n ts) ∙ (ap (ask q) (all-write v k n e ts) ∙ (sym (answer-filled v q ts) ∙ sym (filled-write v k n e (answer q ts)))))

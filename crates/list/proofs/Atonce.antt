@@ -61,6 +61,7 @@ all-filled-as v i c w (u ∷ us) =
   where
     n : ℕ
     n = which (suc i) (v 0) us
+
     go : (b e : Bool) → if (b && e) w [] ++ if (b && not e) (getD (u ∷ us) n []) [] ≡ if b (getD (w ∷ (u ∷ us)) (if e 0 (suc n)) []) []
     go true true = app-none w
     go true false = refl
@@ -84,7 +85,8 @@ which-is i (suc j) x (u ∷ us) e h = rw (ne-eqb x i (λ p. omega arith)) (ap su
 pub all-at-once : All-at-once
 unfolding holds
 all-at-once [] h = absurd (omega arith)
-all-at-once (w ∷ us) h =
-    (all-of 0 always w us
-    , λ i l. (λ k. i, λ r. ap (stands r) (all-filled-as (λ k. i) 0 always w us ∙ ap (λ (n : ℕ). getD (w ∷ us) n []) (which-is 0 i i us (omega arith) l)))
-    , λ v. (which 0 (v 0) us, which-in 0 (v 0) us, λ r. ap (stands r) (all-filled-as v 0 always w us)))
+all-at-once (w ∷ us) h = (
+  all-of 0 always w us,
+  λ i l. (λ k. i, λ r. ap (stands r) (all-filled-as (λ k. i) 0 always w us ∙ ap (λ (n : ℕ). getD (w ∷ us) n []) (which-is 0 i i us (omega arith) l))),
+  λ v. (which 0 (v 0) us, which-in 0 (v 0) us, λ r. ap (stands r) (all-filled-as v 0 always w us)),
+)

@@ -30,8 +30,13 @@ fits xs e =
     let d : (leb (columns-at xs) 4 ≡ true) × _ = and-parts (leb (columns-at xs) 4) _ (c .1) in
     let f : (leb (list-size xs) (length xs) ≡ true) × _ = and-parts (leb (list-size xs) (length xs)) _ (d .1) in
     record {
-        some = leb-true 2 (length xs) (a .0); lines = leb-true (lines-at xs) 64 (b .0); wide = leb-true 1 (columns-at xs) (c .0);
-        narrow = leb-true (columns-at xs) 4 (d .0); whole = leb-true (list-size xs) (length xs) (f .0); cells = f .1 }
+      some = leb-true 2 (length xs) (a .0);
+      lines = leb-true (lines-at xs) 64 (b .0);
+      wide = leb-true 1 (columns-at xs) (c .0);
+      narrow = leb-true (columns-at xs) 4 (d .0);
+      whole = leb-true (list-size xs) (length xs) (f .0);
+      cells = f .1;
+    }
 
 -- all of k+1 lists pass: the first does, and the others do
 pub pass-parts : (ok : List ℕ → Bool) (k : ℕ) (xs : List ℕ) → passing ok (suc k) xs ≡ suc k → (ok xs ≡ true) × (passing ok k (drop (list-size xs) xs) ≡ k)
@@ -52,7 +57,7 @@ pub all-passed : (ok : List ℕ → Bool) (lists : List ℕ) (n : ℕ) → all-p
 unfolding all-pass
 all-passed ok lists n e =
     eqb-true (passing ok (getD lists 0 0) (drop 2 lists)) (getD lists 0 0)
-        (unless-none (eqb (passing ok (getD lists 0 0) (drop 2 lists)) (getD lists 0 0)) n (passing ok (getD lists 0 0) (drop 2 lists)) e)
+    (unless-none (eqb (passing ok (getD lists 0 0) (drop 2 lists)) (getD lists 0 0)) n (passing ok (getD lists 0 0) (drop 2 lists)) e)
 
 pub lists-passed : (lists : List ℕ) → lists-told lists ≡ None → passing list-fits (getD lists 0 0) (drop 2 lists) ≡ getD lists 0 0
 lists-passed lists e =

@@ -137,11 +137,12 @@ reads-fine (suc m) ss small at total low xs p = go (λ i ys q. reads-fine m ss s
 pub few-lines : Few-lines
 few-lines lists signs e =
     go (asked lists signs)
-        (reads-fine 16 (shapes lists) (shapes-small (getD lists 0 0) (drop 2 lists) (lists-passed lists e)) 0 (length (take 96 signs)) low (take 96 signs) (omega arith))
-        (reads-placed 16 (shapes lists) 0 (length (take 96 signs)) (take 96 signs) (omega arith))
+    (reads-fine 16 (shapes lists) (shapes-small (getD lists 0 0) (drop 2 lists) (lists-passed lists e)) 0 (length (take 96 signs)) low (take 96 signs) (omega arith))
+    (reads-placed 16 (shapes lists) 0 (length (take 96 signs)) (take 96 signs) (omega arith))
   where
     low : length (take 96 signs) ≤ 96
     low = simp length-take (omega arith)
+
     go : (r : Read) → Fine-from 0 r → Placed r (length (take 96 signs)) → (sized r .lines ≤ 2 ^ 48) × (sized r .cost < 2 ^ 57)
     go (read s next rest) f p =
         let n : ℕ = f .0 in
