@@ -1,3 +1,5 @@
 pub mod Filling
 pub mod Atonce
 pub mod Fitting
+pub mod Stepping
+pub mod Telling
