@@ -8,7 +8,8 @@ use native.Mathlib.Omega.{arith}
 use lib.ListN.{length, getD, take, drop, length-drop}
 use Rattle.std.proofs.shelf.Bits.{mul-le}
 use Rattle.std.proofs.shelf.Lists.{getD-drop, drop-drop, take-rest}
-use Rattle.list.specs.Layout.{line-size, list-size, cell-fits, cells-fit, lines-fit, passing}
+use lib.Dec.{ltb}
+use Rattle.list.specs.Layout.{line-size, list-size, cell-fits, cells-fit, lines-fit, lines-named, passing}
 
 -- one of n is left fewer
 pub left-step : (n i : ℕ) → i < n → n - i ≡ suc (n - (i + 1))
@@ -79,3 +80,14 @@ passing-stop ok k t at xs l h p =
 pub passing-all : (ok : List ℕ → Bool) (k t at : ℕ) (xs : List ℕ) → k ≤ t → t ≤ k →
     passing ok k xs ≡ t + passing ok (k - t) (drop at xs) → k ≡ passing ok k xs
 passing-all ok k t at xs l m p = omega (arith, passing-none ok k t (drop at xs) l)
+
+pub lines-named-step : (c n w i : ℕ) (xs : List ℕ) → i < n →
+    lines-named c (n - i) w (drop (i * line-size w) xs) ≡ (ltb (getD xs (i * line-size w) 0) c && lines-named c (n - (i + 1)) w (drop ((i + 1) * line-size w) xs))
+unfolding lines-named
+lines-named-step c n w i xs l =
+    let e : i * line-size w + 0 ≡ i * line-size w = omega arith in
+    rw (left-step n i l, getD-drop (i * line-size w) xs 0 0, drop-drop (line-size w) (i * line-size w) xs, line-next i (line-size w), e) refl
+
+pub lines-named-none : (c n w i : ℕ) (xs : List ℕ) → n ≤ i → lines-named c (n - i) w xs ≡ true
+unfolding lines-named
+lines-named-none c n w i xs l = let e : n - i ≡ 0 = omega arith in rw e refl

@@ -4,13 +4,13 @@ use mathlib.Core.Bool.{Bool, true, false}
 use mathlib.Core.List.{List, []}
 use Prim.Native.Nat.{ℕ, zero, suc, _+_, _≤_, _<_}
 use native.Mathlib.Omega.{arith}
-use lib.Dec.{eqb, leb}
+use lib.Dec.{eqb, ltb, leb}
 use lib.ListN.{length, getD, drop}
 use Rattle.std.proofs.shelf.Lists.{getD-past, drop-all}
-use Rattle.std.proofs.shelf.Tests.{le-leb, lt-leb, eq-eqb, ne-eqb}
+use Rattle.std.proofs.shelf.Tests.{le-leb, lt-leb, lt-ltb, le-ltb, eq-eqb, ne-eqb}
 use Rattle.std.specs.declared.option.Option.the-variants.{Some, None}
-use Rattle.condition.specs.Refusals.{unless}
-use Rattle.list.specs.Layout.{list-fits, passing, all-pass, lists-told}
+use Rattle.condition.specs.Refusals.{first, unless}
+use Rattle.list.specs.Layout.{list-fits, list-named, passing, all-pass, lists-told, named-below}
 
 pub told-zero : (lists : List ℕ) → getD lists 0 0 ≡ 0 → lists-told lists ≡ Some (1, 0)
 told-zero lists e = rw e refl
@@ -42,3 +42,21 @@ none-fits (suc k) = refl
 
 pub told-short : (lists : List ℕ) → length lists ≡ 1 → 1 ≤ getD lists 0 0 → getD lists 0 0 ≤ 8 → lists-told lists ≡ Some (1, 0)
 told-short lists e a b = told-unfit lists 0 a b (rw (drop-all 2 lists (omega arith), none-fits) refl) (λ z. omega arith)
+
+-- number 3, from how many lists name only nodes that stand
+pub named-passing : (lists : List ℕ) (c n : ℕ) → n ≡ passing (list-named c) (getD lists 0 0) (drop 2 lists) →
+    named-below lists c ≡ first (unless (eqb n (getD lists 0 0)) 3 n) (unless (ltb (getD lists 1 0) c) 3 8)
+unfolding all-pass
+named-passing lists c n e = rw e refl
+
+pub named-list : (lists : List ℕ) (c n : ℕ) → n ≡ passing (list-named c) (getD lists 0 0) (drop 2 lists) →
+    (n ≡ getD lists 0 0 → ⊥) → named-below lists c ≡ Some (3, n)
+named-list lists c n e ne = named-passing lists c n e ∙ rw (ne-eqb n (getD lists 0 0) ne) refl
+
+pub named-known : (lists : List ℕ) (c n : ℕ) → n ≡ passing (list-named c) (getD lists 0 0) (drop 2 lists) →
+    n ≡ getD lists 0 0 → c ≤ getD lists 1 0 → named-below lists c ≡ Some (3, 8)
+named-known lists c n e q l = named-passing lists c n e ∙ rw (eq-eqb n (getD lists 0 0) q, le-ltb (getD lists 1 0) c l) refl
+
+pub named-all : (lists : List ℕ) (c n : ℕ) → n ≡ passing (list-named c) (getD lists 0 0) (drop 2 lists) →
+    n ≡ getD lists 0 0 → getD lists 1 0 < c → named-below lists c ≡ None
+named-all lists c n e q l = named-passing lists c n e ∙ rw (eq-eqb n (getD lists 0 0) q, lt-ltb (getD lists 1 0) c l) refl
