@@ -3,3 +3,4 @@ pub mod Atonce
 pub mod Fitting
 pub mod Stepping
 pub mod Telling
+pub mod Walking

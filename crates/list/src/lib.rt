@@ -13,9 +13,12 @@ use condition::store_count;
 
 mod fits;
 mod named;
+mod shape;
 
 pub use fits::check_lists;
 pub use named::check_named;
+pub use shape::Shape;
+pub use shape::Shapes;
 
 // How many lists there are; or why the lists are none, or else the store is none, or else a node they name does not stand.
 pub fn check(lists: &[u64], nodes: &[u64]) -> Result<u64, Refusal>
