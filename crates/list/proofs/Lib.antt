@@ -4,3 +4,4 @@ pub mod Fitting
 pub mod Stepping
 pub mod Telling
 pub mod Walking
+pub mod Reading

@@ -12,10 +12,14 @@ use condition::Refusal;
 use condition::store_count;
 
 mod fits;
+mod lines;
 mod named;
 mod shape;
 
 pub use fits::check_lists;
+pub use lines::line;
+pub use lines::line_cell;
+pub use lines::line_node;
 pub use named::check_named;
 pub use shape::Shape;
 pub use shape::Shapes;
