@@ -4,14 +4,14 @@ use mathlib.Core.Bool.{Bool, true, false, _&&_, cond as if}
 use mathlib.Core.List.{List}
 use Prim.Native.Nat.{ℕ, zero, suc, _+_, _-_, _≤_, _<_}
 use native.Mathlib.Omega.{arith}
-use lib.Dec.{eqb, leb}
+use lib.Dec.{eqb, ltb, leb}
 use lib.ListN.{length, getD, drop, length-drop}
 use Rattle.std.proofs.shelf.Lists.{drop-drop}
-use Rattle.std.proofs.shelf.Tests.{leb-true, eqb-true, and-parts}
+use Rattle.std.proofs.shelf.Tests.{ltb-true, leb-true, eqb-true, and-parts}
 use Rattle.std.specs.declared.option.Option.the-variants.{None}
 use Rattle.condition.specs.Refusals.{first, unless}
 use Rattle.condition.proofs.Refusing.{first-none, unless-none}
-use Rattle.list.specs.Layout.{lines-at, columns-at, list-size, lines-fit, list-fits, Fits, passing, all-pass, lists-told, shapes-in}
+use Rattle.list.specs.Layout.{lines-at, columns-at, list-size, lines-fit, list-fits, Fits, passing, all-pass, lists-told, list-named, named-below, shapes-in}
 
 -- a list that fits has these bounds
 pub fits : (xs : List ℕ) → list-fits xs ≡ true → Fits xs
@@ -82,8 +82,15 @@ fitted lists e =
 pub fits-at : (k t : ℕ) (xs : List ℕ) → t < k → passing list-fits (k - t) xs ≡ k - t → Fits xs
 fits-at k t xs l e = let n : k - t ≡ suc (k - (t + 1)) = omega arith in fits xs (pass-parts list-fits (k - (t + 1)) xs (rw n at e) .0)
 
-pub fits-next : (k t at s : ℕ) (xs : List ℕ) → t < k → s ≡ list-size (drop at xs) → passing list-fits (k - t) (drop at xs) ≡ k - t →
-    passing list-fits (k - (t + 1)) (drop (at + s) xs) ≡ k - (t + 1)
-fits-next k t at s xs l q e =
+pub passed-next : (ok : List ℕ → Bool) (k t at s : ℕ) (xs : List ℕ) → t < k → s ≡ list-size (drop at xs) →
+    passing ok (k - t) (drop at xs) ≡ k - t → passing ok (k - (t + 1)) (drop (at + s) xs) ≡ k - (t + 1)
+passed-next ok k t at s xs l q e =
     let n : k - t ≡ suc (k - (t + 1)) = omega arith in
-    rw (q, ← drop-drop (list-size (drop at xs)) at xs) (pass-parts list-fits (k - (t + 1)) (drop at xs) (rw n at e) .1)
+    rw (q, ← drop-drop (list-size (drop at xs)) at xs) (pass-parts ok (k - (t + 1)) (drop at xs) (rw n at e) .1)
+
+-- where number 3 is not told, the lists name only nodes that stand, and so does what is known
+pub all-named : (lists : List ℕ) (c : ℕ) → named-below lists c ≡ None →
+    (passing (list-named c) (getD lists 0 0) (drop 2 lists) ≡ getD lists 0 0) × (getD lists 1 0 < c)
+all-named lists c e =
+    let p : (all-pass (list-named c) lists 3 ≡ None) × _ = first-none (all-pass (list-named c) lists 3) _ e in
+    (all-passed (list-named c) lists 3 (p .0), ltb-true (getD lists 1 0) c (unless-none (ltb (getD lists 1 0) c) 3 8 (p .1)))

@@ -9,18 +9,20 @@ use borrow.Author.Count.{below-more}
 use lib.ListN.{length, getD, drop, set, length-drop}
 use Rattle.std.specs.declared.option.Option.the-variants.{None}
 use Rattle.std.proofs.shelf.Lists.{drop-drop, getD-set-same, getD-set-other}
-use Rattle.list.specs.Layout.{line-size, lines-at, columns-at, list-size, lines-in, lists-in, all-in, shapes-in, list-fits, Fits, passing, lists-told}
+use Rattle.list.specs.Layout.{line-size, lines-at, columns-at, list-size, lines-in, lists-in, all-in, shapes-in, list-fits, Fits, list-named, passing, lists-told}
 use Rattle.list.specs.Layout as layout
 use Rattle.list.specs.Lists.{Line}
 use Rattle.list.specs.Shapes.{no-shape, Shaped}
 use Rattle.list.specs.declared.shape.Shape.{Shape}
 use Rattle.list.proofs.Stepping.{left-step}
-use Rattle.list.proofs.Fitting.{Fitted, fitted, fits-at, fits-next}
+use Rattle.list.proofs.Fitting.{Fitted, fitted, fits-at, passed-next, pass-parts, all-named}
 
 pub record Walked (lists : List ℕ) (t at : ℕ) : Type 0 where
   pub within : at ≤ length lists
   -- the lists that are left fit
   pub left : passing list-fits (getD lists 0 0 - t) (drop at lists) ≡ getD lists 0 0 - t
+  -- they name only nodes that stand, where all lists do
+  pub names : (c : ℕ) → passing (list-named c) (getD lists 0 0) (drop 2 lists) ≡ getD lists 0 0 → passing (list-named c) (getD lists 0 0 - t) (drop at lists) ≡ getD lists 0 0 - t
   -- and they are those from t on
   pub forms : (j : ℕ) → getD (layout.shapes lists) (t + j) (0, 0) ≡ getD (shapes-in (getD lists 0 0 - t) (drop at lists)) j (0, 0)
   pub says : (nodes : List ℕ) (j : ℕ) → getD (all-in nodes lists) (t + j) [] ≡ getD (lists-in nodes (getD lists 0 0 - t) (drop at lists)) j []
@@ -32,6 +34,7 @@ walked-none lists e =
     record {
       within = omega arith;
       left = rw z (f .passed);
+      names = λ c p. rw z p;
       forms = λ j. let y : 0 + j ≡ j = omega arith in rw (z, y) refl;
       says = λ nodes j. let y : 0 + j ≡ j = omega arith in rw (z, y) refl;
     }
@@ -48,7 +51,8 @@ walked-more lists t at s l e w =
     let d = drop-drop (list-size (drop at lists)) at lists in
     record {
       within = omega (arith, f .whole, length-drop at lists);
-      left = fits-next (getD lists 0 0) t at s lists l e (w .left);
+      left = passed-next list-fits (getD lists 0 0) t at s lists l e (w .left);
+      names = λ c p. passed-next (list-named c) (getD lists 0 0) t at s lists l e (w .names c p);
       forms = λ j. let y : t + 1 + j ≡ t + suc j = omega arith in rw (y, e, ← d) (rw n at (w .forms (suc j)));
       says = λ nodes j. let y : t + 1 + j ≡ t + suc j = omega arith in rw (y, e, ← d) (rw n at (w .says nodes (suc j)));
     }
@@ -56,7 +60,7 @@ walked-more lists t at s l e w =
 -- the shape of the list at hand
 pub walked-shaped : (lists : List ℕ) (t at : ℕ) (s : Shape) → t < getD lists 0 0 → Walked lists t at →
     s .at ≡ at + 2 → s .lines ≡ lines-at (drop at lists) → s .width ≡ columns-at (drop at lists) → Shaped lists t s
-unfolding shapes-in lists-in
+unfolding shapes-in lists-in list-named
 walked-shaped lists t at s l w p q r =
     let f : Fits (drop at lists) = walked-fits lists t at l w in
     let n = left-step (getD lists 0 0) t l in
@@ -69,6 +73,8 @@ walked-shaped lists t at s l w p q r =
       narrow = omega (arith, f .narrow);
       whole = rw (p, q, r) (omega (arith, f .whole, f .some, length-drop at lists));
       says = λ nodes. rw (p, q, r, ← d) (rw (n, y) at (w .says nodes 0));
+      named = λ c h.
+          rw (p, q, r, ← d) (pass-parts (list-named c) (getD lists 0 0 - (t + 1)) (drop at lists) (rw n at (w .names c (all-named lists c h .0))) .0);
       cells = rw (p, q, r, ← d) (f .cells);
     }
 

@@ -10,8 +10,9 @@ use mathlib.Core.List.{List, [], map}
 use Prim.Native.Nat.{ℕ, _+_, _*_, _≤_, _<_}
 use lib.ListN.{length, getD, drop}
 use Rattle.std.specs.Of.Vec.{vec-items}
+use Rattle.std.specs.declared.option.Option.the-variants.{None}
 use Rattle.std.specs.declared.vec.Vec.{Vec}
-use Rattle.list.specs.Layout.{line-size, lines-in, all-in, lines-fit}
+use Rattle.list.specs.Layout.{line-size, lines-in, all-in, lines-fit, lines-named, named-below}
 use Rattle.list.specs.Layout as layout
 use Rattle.list.specs.Lists.{Row}
 use Rattle.list.specs.declared.shape.Shape.{Shape}
@@ -37,6 +38,8 @@ pub record Shaped (lists : List ℕ) (t : ℕ) (s : Shape) : Type 0 where
   pub whole : s .at + s .lines * line-size (s .width) ≤ length lists
   -- they are the list's, over every store
   pub says : (nodes : List ℕ) → getD (all-in nodes lists) t [] ≡ lines-in nodes (s .lines) (s .width) (drop (s .at) lists)
+  -- they name only nodes that stand, where the lists do
+  pub named : (c : ℕ) → named-below lists c ≡ None → lines-named c (s .lines) (s .width) (drop (s .at) lists) ≡ true
   -- and their cells are cells
   pub cells : lines-fit (s .lines) (s .width) (drop (s .at) lists) ≡ true
 

@@ -1,9 +1,9 @@
 use native.Mathlib.Omega.{arith}
 use lib.ListN.{drop, length-drop}
 use Rattle.std.proofs.shelf.Lists.{take-rest}
-use Rattle.list.specs.Layout.{list-named}
+use Rattle.list.specs.Layout.{list-fits, list-named}
 use Rattle.list.proofs.Stepping.{passing-more, passing-stop, passing-all}
-use Rattle.list.proofs.Fitting.{fits-at, fits-next}
+use Rattle.list.proofs.Fitting.{fits-at, passed-next}
 use Rattle.list.proofs.named.named_lists.Needs as need
 
 pub named-size-requires : need.named-size-requires
@@ -26,7 +26,7 @@ loop-t-again c =
     let f = fits-at (c .args .k) (c .loop-t .t) (drop (c .loop-t .at) (c .args .xs .now)) (c .loop-t-test .taken) (c .loop-t .inv .1) in (
       passing-more (list-named (c .args .count)) (c .args .k) (c .loop-t .t) (c .loop-t .at) (c .in-Some .size) (c .args .xs .now) (c .loop-t-test .taken)
           (e .0) (e .1) (c .loop-t .inv .0),
-      fits-next (c .args .k) (c .loop-t .t) (c .loop-t .at) (c .in-Some .size) (c .args .xs .now) (c .loop-t-test .taken) (e .1) (c .loop-t .inv .1),
+      passed-next list-fits (c .args .k) (c .loop-t .t) (c .loop-t .at) (c .in-Some .size) (c .args .xs .now) (c .loop-t-test .taken) (e .1) (c .loop-t .inv .1),
       omega (arith, e .1, f .whole, length-drop (c .loop-t .at) (c .args .xs .now)),
     )
 
