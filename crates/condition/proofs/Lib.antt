@@ -1,3 +1,6 @@
 pub mod Lists
 pub mod Named
 pub mod Refusing
+pub mod Fuel
+pub mod Growing
+pub mod Decoding

@@ -4,6 +4,7 @@
 --   node k a b c d go    the condition that a node's five numbers stand for, where go gives those of other nodes
 --   cond-at nodes i      the condition at node i of a store
 --   store-told nodes     the refusal of a slice that is no store
+--   stands nodes i       whether node i stands in a store
 --   room nodes           how many more nodes fit
 --   Grown xs ys          ys is the store xs with nodes added behind those that stood
 use mathlib.Core.Path.{_≡_}
@@ -64,6 +65,9 @@ store-fits nodes = leb (count nodes) 131072 && leb (1 + 5 * count nodes) (length
 
 abbrev pub store-told : List ℕ → Told
 store-told nodes = unless (store-fits nodes) 2 (count nodes)
+
+abbrev pub stands : List ℕ → ℕ → Bool
+stands nodes i = store-fits nodes && ltb i (count nodes)
 
 -- by the slice's length, and by the most nodes that a store may have
 abbrev pub room : List ℕ → ℕ

@@ -14,6 +14,8 @@ mod store;
 pub use reading::cell_at;
 pub use reading::node_at;
 pub use store::MOST_NODES;
+pub use store::node;
+pub use store::room;
 pub use store::store_count;
 
 // A number, or a gap by its name.

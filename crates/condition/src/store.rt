@@ -1,9 +1,10 @@
 // The store: how many nodes stand in it, and which.
+ghost use mathlib.Core.Bool.{true, false};
 ghost use mathlib.Core.Path.{_≡_};
 ghost use Prim.Native.Nat.{ℕ, _+_, _*_, _<_, _≤_};
-ghost use lib.ListN.{length, getD};
+ghost use lib.ListN.{length, getD, drop};
 ghost use Rattle.std.specs.Vec.{made};
-ghost use Rattle.condition.specs.Store.{count, store-told};
+ghost use Rattle.condition.specs.Store.{count, store-told, room};
 ghost use Rattle.condition.specs.Refusals.{outcome};
 use crate::Refusal;
 
@@ -23,4 +24,31 @@ pub fn store_count(nodes: &[u64]) -> Result<u64, Refusal>
         return Err(Refusal::BadStore(count));
     }
     Ok(count)
+}
+
+// How many more nodes fit, by the slice's length and by the most that a store may have.
+pub fn room(nodes: &[u64]) -> Result<u64, Refusal>
+    ensures refusal { λ r. ⌜ outcome r ≡ store-told (now (nodes .entry)) ⌝ }
+    ensures value { λ r. ⌜ made r (λ n. n ≡ room (now (nodes .entry))) ⌝ }
+{
+    let count = store_count(nodes)?;
+    let most = (nodes.len() as u64 - 1) / 5;
+    Ok(most.min(MOST_NODES) - count)
+}
+
+
+// The node at place i; none where it does not stand in a store.
+pub fn node(nodes: &[u64], i: u64) -> Option<Node>
+    ensures read { λ r. ⌜ r ≡ whenTrue (stands (now (nodes .entry)) i) (decoded (now (nodes .entry)) i) ⌝ }
+    ensures is { λ r. ⌜ BySome r (stands (now (nodes .entry)) i ≡ false) (λ n. (go : ℕ → Cond) → node-of n go ≡ node-in (drop 1 (now (nodes .entry))) i go) ⌝ }
+    ensures condition { λ r. ⌜ BySome r (stands (now (nodes .entry)) i ≡ false) (λ n. cond-at (now (nodes .entry)) i ≡ node-of n (earlier i (cond-at (now (nodes .entry))))) ⌝ }
+    ensures named { λ r. ⌜ BySome r (stands (now (nodes .entry)) i ≡ false) Named ⌝ }
+{
+    let Ok(count) = store_count(nodes) else {
+        return None;
+    };
+    if i >= count {
+        return None;
+    }
+    Some(node_at(nodes, 1 + 5 * i as usize))
 }
