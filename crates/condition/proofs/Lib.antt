@@ -4,3 +4,4 @@ pub mod Refusing
 pub mod Fuel
 pub mod Growing
 pub mod Decoding
+pub mod Standing

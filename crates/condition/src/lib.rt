@@ -14,7 +14,7 @@ mod store;
 pub use reading::cell_at;
 pub use reading::node_at;
 pub use store::MOST_NODES;
-pub use store::node;
+pub use store::read_node;
 pub use store::room;
 pub use store::store_count;
 

@@ -3,10 +3,16 @@ ghost use mathlib.Core.Bool.{true, false};
 ghost use mathlib.Core.Path.{_≡_};
 ghost use Prim.Native.Nat.{ℕ, _+_, _*_, _<_, _≤_};
 ghost use lib.ListN.{length, getD, drop};
+ghost use Rattle.std.specs.Options.{Cases as BySome, whenTrue};
 ghost use Rattle.std.specs.Vec.{made};
-ghost use Rattle.condition.specs.Store.{count, store-told, room};
+ghost use Rattle.condition.specs.Cond.{Cond};
+ghost use Rattle.condition.specs.Store.{count, store-told, stands, room, node-in, earlier, cond-at};
+ghost use Rattle.condition.specs.Shapes.{node-of, Named, decoded};
 ghost use Rattle.condition.specs.Refusals.{outcome};
+
+use crate::Node;
 use crate::Refusal;
+use crate::reading::node_at;
 
 // The most nodes that a store may have.
 pub const MOST_NODES: u64 = 131072;
@@ -38,7 +44,7 @@ pub fn room(nodes: &[u64]) -> Result<u64, Refusal>
 
 
 // The node at place i; none where it does not stand in a store.
-pub fn node(nodes: &[u64], i: u64) -> Option<Node>
+pub fn read_node(nodes: &[u64], i: u64) -> Option<Node>
     ensures read { λ r. ⌜ r ≡ whenTrue (stands (now (nodes .entry)) i) (decoded (now (nodes .entry)) i) ⌝ }
     ensures is { λ r. ⌜ BySome r (stands (now (nodes .entry)) i ≡ false) (λ n. (go : ℕ → Cond) → node-of n go ≡ node-in (drop 1 (now (nodes .entry))) i go) ⌝ }
     ensures condition { λ r. ⌜ BySome r (stands (now (nodes .entry)) i ≡ false) (λ n. cond-at (now (nodes .entry)) i ≡ node-of n (earlier i (cond-at (now (nodes .entry))))) ⌝ }
