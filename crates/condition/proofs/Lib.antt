@@ -5,3 +5,4 @@ pub mod Fuel
 pub mod Growing
 pub mod Decoding
 pub mod Standing
+pub mod Added

@@ -5,6 +5,8 @@
 --   Named n            the cells of a node are numbers or of the 64 gaps
 --   node-from k a b c d    the node that five numbers are read as
 --   decoded nodes i    the node that the five numbers at place i of a store are read as
+--   Five n xs          the first five numbers of xs are those of the node n
+--   Added xs ys n i    ys is the store xs with the node n added, at place i
 --   behind n i         whether all places that a node names lie before i
 --   Stands-as nodes i n    node n stands at place i, behind all that it names
 use mathlib.Core.List.{List}
@@ -15,7 +17,7 @@ use lib.Dec.{ltb}
 use lib.ListN.{getD}
 use Rattle.condition.specs.Cond.{known, gap, Cond, always, never, not-so, both, either}
 use Rattle.condition.specs.Cond as conditions
-use Rattle.condition.specs.Store.{comparison, has-name, count}
+use Rattle.condition.specs.Store.{comparison, has-name, node, count, cond-at, Grown}
 use Rattle.condition.specs.declared.Cell.{Cell}
 use Rattle.condition.specs.declared.Cell.the-variants.{Number, Gap}
 use Rattle.condition.specs.declared.Node.{Node}
@@ -60,6 +62,16 @@ node-from (suc (suc (suc (suc (suc k))))) a b c d = Either a b
 abbrev pub decoded : List ℕ → ℕ → Node
 decoded nodes i =
     node-from (getD nodes (1 + 5 * i) 0) (getD nodes (1 + 5 * i + 1) 0) (getD nodes (1 + 5 * i + 2) 0) (getD nodes (1 + 5 * i + 3) 0) (getD nodes (1 + 5 * i + 4) 0)
+
+abbrev pub Five : Node → List ℕ → Type 0
+Five n xs = (go : ℕ → Cond) → node-of n go ≡ node (getD xs 0 0) (getD xs 1 0) (getD xs 2 0) (getD xs 3 0) (getD xs 4 0) go
+
+pub record Added (xs ys : List ℕ) (n : Node) (i : ℕ) : Type 0 where
+  pub place : i ≡ count xs
+  pub more : count ys ≡ i + 1
+  pub grown : Grown xs ys
+  pub stays : (j : ℕ) → j < i → cond-at ys j ≡ cond-at xs j
+  pub new : cond-at ys i ≡ node-of n (cond-at xs)
 
 abbrev pub behind : Node → ℕ → Bool
 behind Always i = true

@@ -8,9 +8,12 @@ ghost use Rattle.condition.specs.declared.Refusal.the-variants.{NoMemory};
 use std::alloc::AllocError;
 use std::alloc::Refused;
 
+mod adding;
 mod reading;
 mod store;
 
+pub use adding::add;
+pub use adding::append;
 pub use reading::cell_at;
 pub use reading::node_at;
 pub use store::MOST_NODES;
