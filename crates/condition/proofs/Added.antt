@@ -50,10 +50,13 @@ module _ (xs ys : List ℕ) (fits : 6 + 5 * count xs ≤ length xs) (size : leng
 
   pub grown : ((k : ℕ) → 5 ≤ k → getD ys k 0 ≡ getD (drop at xs) k 0) → Grown xs after
   grown h = record {
-      long = long; more = omega (arith, counted); fits = omega (arith, counted, long, fits);
-      front = front;
-      past = λ k l. let e : at + (k - at) ≡ k = omega (arith, counted) in
-          ap (λ t. getD after t 0) (sym e) ∙ (behind (k - at) ∙ (h (k - at) (omega (arith, counted)) ∙ (getD-drop at xs (k - at) 0 ∙ ap (λ t. getD xs t 0) e))) }
+    long = long;
+    more = omega (arith, counted);
+    fits = omega (arith, counted, long, fits);
+    front = front;
+    past = λ k l. let e : at + (k - at) ≡ k = omega (arith, counted) in
+        ap (λ t. getD after t 0) (sym e) ∙ (behind (k - at) ∙ (h (k - at) (omega (arith, counted)) ∙ (getD-drop at xs (k - at) 0 ∙ ap (λ t. getD xs t 0) e)));
+  }
 
   five-at : (k : ℕ) → getD (drop 1 after) (5 * count xs + k) 0 ≡ getD ys k 0
   five-at k = let e : 1 + (5 * count xs + k) ≡ at + k = omega arith in getD-drop 1 after (5 * count xs + k) 0 ∙ (ap (λ t. getD after t 0) e ∙ behind k)
@@ -65,6 +68,6 @@ module _ (xs ys : List ℕ) (fits : 6 + 5 * count xs ≤ length xs) (size : leng
       ∙ (unrolled (drop 1 after) (count xs)
       ∙ (node-five (drop 1 after) ys (count xs) five-at _
       ∙ (node-same (getD ys 0 0) (getD ys 1 0) (getD ys 2 0) (getD ys 3 0) (getD ys 4 0) _ (cond-at xs)
-            (earlier-same (count xs) (λ j. cond-deep (suc j) (drop 1 after) j) (λ j. cond-deep (suc j) (drop 1 xs) j)
-                (λ j l. deep-same (suc j) (drop 1 after) (drop 1 xs) j (λ k m. rw (getD-drop 1 after k 0, getD-drop 1 xs k 0) (front (1 + k) (omega arith) (omega arith)))))
+      (earlier-same (count xs) (λ j. cond-deep (suc j) (drop 1 after) j) (λ j. cond-deep (suc j) (drop 1 xs) j)
+      (λ j l. deep-same (suc j) (drop 1 after) (drop 1 xs) j (λ k m. rw (getD-drop 1 after k 0, getD-drop 1 xs k 0) (front (1 + k) (omega arith) (omega arith)))))
       ∙ sym (f (cond-at xs)))))

@@ -22,14 +22,15 @@ node-same (suc (suc (suc (suc zero)))) a b c d go to h = rw (h a, h b) refl
 node-same (suc (suc (suc (suc (suc k))))) a b c d go to h = rw (h a, h b) refl
 
 pub earlier-same : (i : ℕ) (go to : ℕ → Cond) → ((j : ℕ) → j < i → go j ≡ to j) → (j : ℕ) → earlier i go j ≡ earlier i to j
-earlier-same i go to h j = elim (cases-lt j i)
-  [ inl l ↦ rw (lt-ltb j i l) (h j l)
-  | inr l ↦ rw (le-ltb j i l) refl ]
+earlier-same i go to h j = elim (cases-lt j i) [
+  | inl l ↦ rw (lt-ltb j i l) (h j l)
+  | inr l ↦ rw (le-ltb j i l) refl
+]
 
 pub node-in-same : (xs : List ℕ) (i : ℕ) (go to : ℕ → Cond) → ((j : ℕ) → j < i → go j ≡ to j) → node-in xs i (earlier i go) ≡ node-in xs i (earlier i to)
 node-in-same xs i go to h =
     node-same (getD xs (5 * i) 0) (getD xs (5 * i + 1) 0) (getD xs (5 * i + 2) 0) (getD xs (5 * i + 3) 0) (getD xs (5 * i + 4) 0) (earlier i go) (earlier i to)
-        (earlier-same i go to h)
+    (earlier-same i go to h)
 
 -- enough is enough
 pub fuel : (n m : ℕ) (xs : List ℕ) (i : ℕ) → i < n → i < m → cond-deep n xs i ≡ cond-deep m xs i

@@ -15,9 +15,12 @@ grown-self xs h = record { long = refl; more = omega arith; fits = h; front = λ
 
 pub grown-trans : (xs ys zs : List ℕ) → Grown xs ys → Grown ys zs → Grown xs zs
 grown-trans xs ys zs g h = record {
-    long = h .long ∙ g .long; more = omega (arith, g .more, h .more); fits = h .fits;
-    front = λ k l m. h .front k l (omega (arith, g .more)) ∙ g .front k l m;
-    past = λ k l. h .past k l ∙ g .past k (omega (arith, h .more)) }
+  long = h .long ∙ g .long;
+  more = omega (arith, g .more, h .more);
+  fits = h .fits;
+  front = λ k l m. h .front k l (omega (arith, g .more)) ∙ g .front k l m;
+  past = λ k l. h .past k l ∙ g .past k (omega (arith, h .more));
+}
 
 -- stores with the same nodes up to i have the same condition there
 pub cond-same : (xs ys : List ℕ) (i : ℕ) → i < count xs → i < count ys → ((k : ℕ) → 0 < k → k < 6 + 5 * i → getD ys k 0 ≡ getD xs k 0) → cond-at ys i ≡ cond-at xs i

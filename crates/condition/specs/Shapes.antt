@@ -8,7 +8,9 @@
 --   Five n xs          the first five numbers of xs are those of the node n
 --   Added xs ys n i    ys is the store xs with the node n added, at place i
 --   behind n i         whether all places that a node names lie before i
---   Stands-as nodes i n    node n stands at place i, behind all that it names
+--   Stands-as nodes i n    the node n stands at place i, behind all that it names
+--   Found nodes n i    i is the lowest place of a store at which n stands
+--   Lacks nodes n      there is none, or no store
 use mathlib.Core.List.{List}
 use mathlib.Core.Path.{_≡_}
 use mathlib.Core.Bool.{Bool, true, _&&_, cond as if}
@@ -17,7 +19,7 @@ use lib.Dec.{ltb}
 use lib.ListN.{getD}
 use Rattle.condition.specs.Cond.{known, gap, Cond, always, never, not-so, both, either}
 use Rattle.condition.specs.Cond as conditions
-use Rattle.condition.specs.Store.{comparison, has-name, node, count, cond-at, Grown}
+use Rattle.condition.specs.Store.{comparison, has-name, node, count, cond-at, store-fits, Grown}
 use Rattle.condition.specs.declared.Cell.{Cell}
 use Rattle.condition.specs.declared.Cell.the-variants.{Number, Gap}
 use Rattle.condition.specs.declared.Node.{Node}
@@ -86,3 +88,11 @@ pub record Stands-as (nodes : List ℕ) (i : ℕ) (n : Node) : Type 0 where
   pub stands : i < count nodes
   pub after : behind n i ≡ true
   pub same : decoded nodes i ≡ n
+
+pub record Found (nodes : List ℕ) (n : Node) (i : ℕ) : Type 0 where
+  pub store : store-fits nodes ≡ true
+  pub here : Stands-as nodes i n
+  pub lowest : (j : ℕ) → j < i → Stands-as nodes j n → ⊥
+
+abbrev pub Lacks : List ℕ → Node → Type 0
+Lacks nodes n = store-fits nodes ≡ true → (j : ℕ) → Stands-as nodes j n → ⊥

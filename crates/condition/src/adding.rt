@@ -7,7 +7,6 @@ ghost use Rattle.std.specs.Vec.{made};
 ghost use Rattle.condition.specs.Store.{count, store-told, room-told, cond-at, Grown};
 ghost use Rattle.condition.specs.Shapes.{node-of, Five, Added};
 ghost use Rattle.condition.specs.Refusals.{outcome, first};
-
 use crate::Cell;
 use crate::Node;
 use crate::Refusal;

@@ -9,11 +9,13 @@ use std::alloc::AllocError;
 use std::alloc::Refused;
 
 mod adding;
+mod finding;
 mod reading;
 mod store;
 
 pub use adding::add;
 pub use adding::append;
+pub use finding::find;
 pub use reading::cell_at;
 pub use reading::node_at;
 pub use store::MOST_NODES;
@@ -22,14 +24,14 @@ pub use store::room;
 pub use store::store_count;
 
 // A number, or a gap by its name.
-#[derive(Clone, Copy)]
+#[derive(Clone, Copy, PartialEq, Eq)]
 pub enum Cell {
     Number(u64),
     Gap(u64),
 }
 
 // A node of a store: a condition over two cells, or over conditions at other places of the store.
-#[derive(Clone, Copy)]
+#[derive(Clone, Copy, PartialEq, Eq)]
 pub enum Node {
     Always,
     Never,

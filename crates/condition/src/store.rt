@@ -9,7 +9,6 @@ ghost use Rattle.condition.specs.Cond.{Cond};
 ghost use Rattle.condition.specs.Store.{count, store-told, stands, room, node-in, earlier, cond-at};
 ghost use Rattle.condition.specs.Shapes.{node-of, Named, decoded};
 ghost use Rattle.condition.specs.Refusals.{outcome};
-
 use crate::Node;
 use crate::Refusal;
 use crate::reading::node_at;
@@ -41,7 +40,6 @@ pub fn room(nodes: &[u64]) -> Result<u64, Refusal>
     let most = (nodes.len() as u64 - 1) / 5;
     Ok(most.min(MOST_NODES) - count)
 }
-
 
 // The node at place i; none where it does not stand in a store.
 pub fn read_node(nodes: &[u64], i: u64) -> Option<Node>

@@ -15,8 +15,9 @@ returns c =
     let p : (k : ℕ) → 5 ≤ k → getD ys k 0 ≡ getD (drop (1 + 5 * count xs) xs) k 0 = rw take-rest at (c .write .ensures .past) in
     let g = grown xs ys (c .pre) s p in
     record {
-    place = refl;
-    count = counted xs ys (c .pre) s;
-    grown = g;
-    stays = grown-cond xs _ g;
-    new = added xs ys (c .pre) s (c .args .node) (c .write .ensures .new) }
+      place = refl;
+      count = counted xs ys (c .pre) s;
+      grown = g;
+      stays = grown-cond xs _ g;
+      new = added xs ys (c .pre) s (c .args .node) (c .write .ensures .new);
+    }

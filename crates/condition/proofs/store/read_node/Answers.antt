@@ -14,7 +14,8 @@ returns c =
     let l : i < count nodes = omega (arith, v .0) in
     let s : stands nodes i ≡ true = stands-from nodes i (fits-from nodes (omega (arith, v .0, v .1)) (omega (arith, v .0, v .2))) l in
     record {
-    read = rw (s, e);
-    is = λ go. rw e (decoded-is nodes i go);
-    condition = rw e (at-decoded nodes i l);
-    named = c .node-at .ensures .named }
+      read = rw (s, e);
+      is = λ go. rw e (decoded-is nodes i go);
+      condition = rw e (at-decoded nodes i l);
+      named = c .node-at .ensures .named;
+    }
