@@ -8,27 +8,16 @@ ghost use Rattle.condition.specs.declared.Refusal.the-variants.{NoMemory};
 use std::alloc::AllocError;
 use std::alloc::Refused;
 
-<<<<<<< HEAD
-mod reading;
-mod store;
-
-pub use reading::cell_at;
-pub use reading::node_at;
-pub use store::MOST_NODES;
-pub use store::store_count;
-
-mod display;
-
-pub use display::CellDisplay;
-pub use display::NodeDisplay;
-=======
 mod adding;
+mod display;
 mod finding;
 mod reading;
 mod store;
 
 pub use adding::add;
 pub use adding::append;
+pub use display::CellDisplay;
+pub use display::NodeDisplay;
 pub use finding::find;
 pub use reading::cell_at;
 pub use reading::node_at;
@@ -36,7 +25,6 @@ pub use store::MOST_NODES;
 pub use store::read_node;
 pub use store::room;
 pub use store::store_count;
->>>>>>> helper-a
 
 // A number, or a gap by its name.
 #[derive(Clone, Copy, PartialEq, Eq)]

@@ -4,11 +4,7 @@ ghost use Prim.Native.Nat.{ℕ, _+_, _<_};
 ghost use lib.ListN.{length, getD};
 ghost use Rattle.condition.specs.Cond.{Cond};
 ghost use Rattle.condition.specs.Store.{cell-in, has-name, comparison, node};
-<<<<<<< HEAD
-ghost use Rattle.condition.specs.Shapes.{cell-of, node-of, Named};
-=======
 ghost use Rattle.condition.specs.Shapes.{cell-of, node-of, Named, compared, node-from};
->>>>>>> helper-a
 use crate::Cell;
 use crate::Node;
 
@@ -38,10 +34,7 @@ fn has_name(cell: Cell) -> bool
 fn comparison(a: Cell, b: Cell) -> Node
     ensures is { λ r. ⌜ ((go : ℕ → Cond) → node-of r go ≡ comparison (cell-of a) (cell-of b)) ⌝ }
     ensures named { λ r. ⌜ Named r ⌝ }
-<<<<<<< HEAD
-=======
     ensures read { λ r. ⌜ r ≡ compared a b ⌝ }
->>>>>>> helper-a
 {
     if has_name(a) && has_name(b) {
         Node::Equal(a, b)
@@ -55,10 +48,7 @@ pub fn node_at(xs: &[u64], i: usize) -> Node
     requires { ⌜ i + 4 < length (now xs) ⌝ }
     ensures is { λ r. ⌜ ((go : ℕ → Cond) → node-of r go ≡ node (getD (now (xs .entry)) i 0) (getD (now (xs .entry)) (i + 1) 0) (getD (now (xs .entry)) (i + 2) 0) (getD (now (xs .entry)) (i + 3) 0) (getD (now (xs .entry)) (i + 4) 0) go) ⌝ }
     ensures named { λ r. ⌜ Named r ⌝ }
-<<<<<<< HEAD
-=======
     ensures read { λ r. ⌜ r ≡ node-from (getD (now (xs .entry)) i 0) (getD (now (xs .entry)) (i + 1) 0) (getD (now (xs .entry)) (i + 2) 0) (getD (now (xs .entry)) (i + 3) 0) (getD (now (xs .entry)) (i + 4) 0) ⌝ }
->>>>>>> helper-a
 {
     match xs[i] {
         0 => Node::Always,

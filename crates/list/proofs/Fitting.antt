@@ -2,25 +2,18 @@
 use mathlib.Core.Path.{_≡_, refl, sym, _∙_, ap}
 use mathlib.Core.Bool.{Bool, true, false, _&&_, cond as if}
 use mathlib.Core.List.{List}
-use Prim.Native.Nat.{ℕ, zero, suc, _≤_}
+use Prim.Native.Nat.{ℕ, zero, suc, _+_, _-_, _≤_, _<_}
 use native.Mathlib.Omega.{arith}
-use lib.Dec.{eqb, leb}
-use lib.ListN.{length, getD, drop}
-use Rattle.std.proofs.shelf.Tests.{leb-true, eqb-true, and-parts}
+use lib.Dec.{eqb, ltb, leb}
+use lib.ListN.{length, getD, drop, length-drop}
+use Rattle.std.proofs.shelf.Lists.{drop-drop}
+use Rattle.std.proofs.shelf.Tests.{ltb-true, leb-true, eqb-true, and-parts}
 use Rattle.std.specs.declared.option.Option.the-variants.{None}
 use Rattle.condition.specs.Refusals.{first, unless}
 use Rattle.condition.proofs.Refusing.{first-none, unless-none}
-use Rattle.list.specs.Layout.{lines-at, columns-at, list-size, lines-fit, list-fits, passing, all-pass, lists-told, shapes-in}
+use Rattle.list.specs.Layout.{lines-at, columns-at, list-size, lines-fit, list-fits, Fits, passing, all-pass, lists-told, list-named, named-below, shapes-in}
 
--- the shape of a list that fits
-pub record Fits (xs : List ℕ) : Type 0 where
-  pub some : 2 ≤ length xs
-  pub lines : lines-at xs ≤ 64
-  pub wide : 1 ≤ columns-at xs
-  pub narrow : columns-at xs ≤ 4
-  pub whole : list-size xs ≤ length xs
-  pub cells : lines-fit (lines-at xs) (columns-at xs) (drop 2 xs) ≡ true
-
+-- a list that fits has these bounds
 pub fits : (xs : List ℕ) → list-fits xs ≡ true → Fits xs
 unfolding list-fits
 fits xs e =
@@ -63,3 +56,41 @@ pub lists-passed : (lists : List ℕ) → lists-told lists ≡ None → passing 
 lists-passed lists e =
     let p : (unless (leb 1 (getD lists 0 0)) 1 0 ≡ None) × _ = first-none (unless (leb 1 (getD lists 0 0)) 1 0) _ e in
     all-passed list-fits lists 1 (first-none (unless (leb (getD lists 0 0) 8) 1 8) (all-pass list-fits lists 1) (p .1) .1)
+
+-- what lists that are not refused have: 1 to 8 lists, and room for the count, the node and the first list's shape
+pub record Fitted (lists : List ℕ) : Type 0 where
+  pub some : 1 ≤ getD lists 0 0
+  pub few : getD lists 0 0 ≤ 8
+  pub long : 4 ≤ length lists
+  pub passed : passing list-fits (getD lists 0 0) (drop 2 lists) ≡ getD lists 0 0
+
+pub passed-long : (k : ℕ) (xs : List ℕ) → 1 ≤ k → passing list-fits k xs ≡ k → 2 ≤ length xs
+passed-long zero xs l e = absurd (omega arith)
+passed-long (suc k) xs l e = fits xs (pass-parts list-fits k xs e .0) .some
+
+pub fitted : (lists : List ℕ) → lists-told lists ≡ None → Fitted lists
+fitted lists e =
+    let p : (unless (leb 1 (getD lists 0 0)) 1 0 ≡ None) × _ = first-none (unless (leb 1 (getD lists 0 0)) 1 0) _ e in
+    let q : (unless (leb (getD lists 0 0) 8) 1 8 ≡ None) × _ = first-none (unless (leb (getD lists 0 0) 8) 1 8) (all-pass list-fits lists 1) (p .1) in
+    let a : 1 ≤ getD lists 0 0 = leb-true 1 (getD lists 0 0) (unless-none (leb 1 (getD lists 0 0)) 1 0 (p .0)) in
+    let b : getD lists 0 0 ≤ 8 = leb-true (getD lists 0 0) 8 (unless-none (leb (getD lists 0 0) 8) 1 8 (q .0)) in
+    let h = lists-passed lists e in
+    let l : 2 ≤ length (drop 2 lists) = passed-long (getD lists 0 0) (drop 2 lists) a h in
+    record { some = a; few = b; long = omega (arith, length-drop 2 lists); passed = h }
+
+-- the list at hand fits, and behind it those that are left pass
+pub fits-at : (k t : ℕ) (xs : List ℕ) → t < k → passing list-fits (k - t) xs ≡ k - t → Fits xs
+fits-at k t xs l e = let n : k - t ≡ suc (k - (t + 1)) = omega arith in fits xs (pass-parts list-fits (k - (t + 1)) xs (rw n at e) .0)
+
+pub passed-next : (ok : List ℕ → Bool) (k t at s : ℕ) (xs : List ℕ) → t < k → s ≡ list-size (drop at xs) →
+    passing ok (k - t) (drop at xs) ≡ k - t → passing ok (k - (t + 1)) (drop (at + s) xs) ≡ k - (t + 1)
+passed-next ok k t at s xs l q e =
+    let n : k - t ≡ suc (k - (t + 1)) = omega arith in
+    rw (q, ← drop-drop (list-size (drop at xs)) at xs) (pass-parts ok (k - (t + 1)) (drop at xs) (rw n at e) .1)
+
+-- where number 3 is not told, the lists name only nodes that stand, and so does what is known
+pub all-named : (lists : List ℕ) (c : ℕ) → named-below lists c ≡ None →
+    (passing (list-named c) (getD lists 0 0) (drop 2 lists) ≡ getD lists 0 0) × (getD lists 1 0 < c)
+all-named lists c e =
+    let p : (all-pass (list-named c) lists 3 ≡ None) × _ = first-none (all-pass (list-named c) lists 3) _ e in
+    (all-passed (list-named c) lists 3 (p .0), ltb-true (getD lists 1 0) c (unless-none (ltb (getD lists 1 0) c) 3 8 (p .1)))

@@ -6,11 +6,13 @@
 --   known-in nodes lists       what is known: the condition on everything
 --   all-in nodes lists         the lists, behind their count and the node of what is known
 --   shapes-in k xs             lines and columns of each
+--   list-fits xs, Fits xs      the list at the front of xs has at most 64 lines and 1 to 4 columns, is whole, and its cells are cells
 --   lists-told lists           number 1 with its place
 --   named-told lists nodes     number 3 with its place
+use mathlib.Core.Path.{_≡_}
 use mathlib.Core.Bool.{Bool, true, false, _&&_, _||_, cond as if}
 use mathlib.Core.List.{List, [], _∷_}
-use Prim.Native.Nat.{ℕ, zero, suc, _+_, _*_}
+use Prim.Native.Nat.{ℕ, zero, suc, _+_, _*_, _≤_}
 use lib.Dec.{eqb, ltb, leb}
 use lib.ListN.{length, getD, drop}
 use Rattle.condition.specs.Cond.{Cell, Cond}
@@ -76,6 +78,15 @@ list-fits xs =
     leb 2 (length xs) && (leb (lines-at xs) 64 && (leb 1 (columns-at xs) && (leb (columns-at xs) 4
     && (leb (list-size xs) (length xs) && lines-fit (lines-at xs) (columns-at xs) (drop 2 xs)))))
 
+-- the same as bounds
+pub record Fits (xs : List ℕ) : Type 0 where
+  pub some : 2 ≤ length xs
+  pub lines : lines-at xs ≤ 64
+  pub wide : 1 ≤ columns-at xs
+  pub narrow : columns-at xs ≤ 4
+  pub whole : list-size xs ≤ length xs
+  pub cells : lines-fit (lines-at xs) (columns-at xs) (drop 2 xs) ≡ true
+
 -- each line's node stands in a store of c nodes
 unfoldable pub lines-named : ℕ → ℕ → ℕ → List ℕ → Bool
 lines-named c zero w xs = true
@@ -101,8 +112,11 @@ lists-told lists =
     (first (unless (leb (getD lists 0 0) 8) 1 8)
     (all-pass list-fits lists 1))
 
--- number 3: the first list with a line whose node does not stand, else 8 for what is known
+-- number 3, over a store of c nodes: the first list with a line whose node does not stand, else 8 for what is known
+abbrev pub named-below : List ℕ → ℕ → Told
+named-below lists c =
+    first (all-pass (list-named c) lists 3)
+    (unless (ltb (getD lists 1 0) c) 3 8)
+
 abbrev pub named-told : (lists nodes : List ℕ) → Told
-named-told lists nodes =
-    first (all-pass (list-named (count nodes)) lists 3)
-    (unless (ltb (getD lists 1 0) (count nodes)) 3 8)
+named-told lists nodes = named-below lists (count nodes)

@@ -1,0 +1,94 @@
+-- Lines and cells by their place.
+use mathlib.Core.Path.{_≡_, refl, sym, _∙_, ap}
+use mathlib.Core.Bool.{Bool, true, false, _&&_, _||_}
+use mathlib.Core.List.{List, []}
+use mathlib.Core.Logic.{_⊎_, inl, inr}
+use Prim.Native.Nat.{ℕ, zero, suc, _+_, _*_, _≤_, _<_}
+use native.Mathlib.Nat.{suc-mul, zero-mul}
+use native.Mathlib.Omega.{arith}
+use lib.Dec.{eqb, ltb}
+use lib.ListN.{length, getD, drop}
+use Rattle.std.proofs.shelf.Lists.{getD-drop, drop-drop}
+use Rattle.std.proofs.shelf.Tests.{and-parts}
+use Rattle.std.proofs.shelf.Ways.{tells}
+use Rattle.condition.specs.Cond.{Cell, known, gap}
+use Rattle.condition.specs.Store.{cell-in, cond-at, has-name}
+use Rattle.list.specs.Lists.{Line}
+use Rattle.list.specs.Layout.{line-size, cells-in, lines-in, cell-fits, cells-fit, lines-fit, lines-named}
+
+-- the line at the front of xs
+abbrev pub line-in : List ℕ → ℕ → List ℕ → Line
+line-in nodes w xs = record { cells = cells-in w (drop 1 xs); if-so = cond-at nodes (getD xs 0 0) }
+
+pub length-cells : (w : ℕ) (xs : List ℕ) → length (cells-in w xs) ≡ w
+unfolding cells-in
+length-cells zero xs = refl
+length-cells (suc w) xs = ap suc (length-cells w (drop 2 xs))
+
+pub length-lines : (nodes : List ℕ) (n w : ℕ) (xs : List ℕ) → length (lines-in nodes n w xs) ≡ n
+unfolding lines-in
+length-lines nodes zero w xs = refl
+length-lines nodes (suc n) w xs = ap suc (length-lines nodes n w (drop (line-size w) xs))
+
+pub cell-at : (w a : ℕ) (xs : List ℕ) (d : Cell) → a < w → getD (cells-in w xs) a d ≡ cell-in (getD xs (2 * a) 0) (getD xs (2 * a + 1) 0)
+unfolding cells-in
+cell-at zero a xs d l = absurd (omega arith)
+cell-at (suc w) zero xs d l = refl
+cell-at (suc w) (suc a) xs d l =
+    let e : 2 + 2 * a ≡ 2 * suc a = omega arith in let f : 2 + (2 * a + 1) ≡ 2 * suc a + 1 = omega arith in
+    cell-at w a (drop 2 xs) d (omega arith) ∙ rw (getD-drop 2 xs (2 * a) 0, getD-drop 2 xs (2 * a + 1) 0, e, f) refl
+
+-- the same behind a line's node
+pub line-cell-at : (w a : ℕ) (xs : List ℕ) (d : Cell) → a < w → getD (cells-in w (drop 1 xs)) a d ≡ cell-in (getD xs (1 + 2 * a) 0) (getD xs (2 + 2 * a) 0)
+line-cell-at w a xs d l =
+    let e : 1 + (2 * a + 1) ≡ 2 + 2 * a = omega arith in
+    cell-at w a (drop 1 xs) d l ∙ rw (getD-drop 1 xs (2 * a) 0, getD-drop 1 xs (2 * a + 1) 0, e) refl
+
+pub line-at : (nodes : List ℕ) (n w i : ℕ) (xs : List ℕ) (d : Line) → i < n → getD (lines-in nodes n w xs) i d ≡ line-in nodes w (drop (i * line-size w) xs)
+unfolding lines-in
+line-at nodes zero w i xs d l = absurd (omega arith)
+line-at nodes (suc n) w zero xs d l = rw (zero-mul (line-size w)) refl
+line-at nodes (suc n) w (suc i) xs d l =
+    let e : suc i * line-size w ≡ line-size w + i * line-size w = suc-mul i (line-size w) ∙ omega arith in
+    line-at nodes n w i (drop (line-size w) xs) d (omega arith) ∙ rw (e, ← drop-drop (i * line-size w) (line-size w) xs) refl
+
+-- line i of the lines that stand at a place
+pub line-of-part : (nodes : List ℕ) (n w i at : ℕ) (xs line : List ℕ) (d : Line) → i < n → line ≡ drop (at + i * line-size w) xs →
+    getD (lines-in nodes n w (drop at xs)) i d ≡ line-in nodes w line
+line-of-part nodes n w i at xs line d l e = line-at nodes n w i (drop at xs) d l ∙ rw (drop-drop (i * line-size w) at xs, e) refl
+
+-- what fits, by its place
+pub cells-fit-at : (w a : ℕ) (xs : List ℕ) → a < w → cells-fit w xs ≡ true → cell-fits (getD xs (2 * a) 0) (getD xs (2 * a + 1) 0) ≡ true
+unfolding cells-fit
+cells-fit-at zero a xs l h = absurd (omega arith)
+cells-fit-at (suc w) zero xs l h = and-parts (cell-fits (getD xs 0 0) (getD xs 1 0)) (cells-fit w (drop 2 xs)) h .0
+cells-fit-at (suc w) (suc a) xs l h =
+    let e : 2 + 2 * a ≡ 2 * suc a = omega arith in let f : 2 + (2 * a + 1) ≡ 2 * suc a + 1 = omega arith in
+    rw (getD-drop 2 xs (2 * a) 0, getD-drop 2 xs (2 * a + 1) 0, e, f) at
+    (cells-fit-at w a (drop 2 xs) (omega arith) (and-parts (cell-fits (getD xs 0 0) (getD xs 1 0)) (cells-fit w (drop 2 xs)) h .1))
+
+pub lines-fit-at : (n w i : ℕ) (xs : List ℕ) → i < n → lines-fit n w xs ≡ true → cells-fit w (drop (i * line-size w + 1) xs) ≡ true
+unfolding lines-fit
+lines-fit-at zero w i xs l h = absurd (omega arith)
+lines-fit-at (suc n) w zero xs l h =
+    let e : 0 * line-size w + 1 ≡ 1 = rw (zero-mul (line-size w)) refl in
+    rw e (and-parts (cells-fit w (drop 1 xs)) (lines-fit n w (drop (line-size w) xs)) h .0)
+lines-fit-at (suc n) w (suc i) xs l h =
+    let e : line-size w + (i * line-size w + 1) ≡ suc i * line-size w + 1 = omega (arith, suc-mul i (line-size w)) in
+    rw (drop-drop (i * line-size w + 1) (line-size w) xs, e) at
+    (lines-fit-at n w i (drop (line-size w) xs) (omega arith) (and-parts (cells-fit w (drop 1 xs)) (lines-fit n w (drop (line-size w) xs)) h .1))
+
+pub lines-named-at : (c n w i : ℕ) (xs : List ℕ) → i < n → lines-named c n w xs ≡ true → ltb (getD xs (i * line-size w) 0) c ≡ true
+unfolding lines-named
+lines-named-at c zero w i xs l h = absurd (omega arith)
+lines-named-at c (suc n) w zero xs l h = rw (zero-mul (line-size w)) (and-parts (ltb (getD xs 0 0) c) (lines-named c n w (drop (line-size w) xs)) h .0)
+lines-named-at c (suc n) w (suc i) xs l h =
+    let e : line-size w + i * line-size w ≡ suc i * line-size w = omega (arith, suc-mul i (line-size w)) in
+    rw (getD-drop (line-size w) xs (i * line-size w) 0, e) at
+    (lines-named-at c n w i (drop (line-size w) xs) (omega arith) (and-parts (ltb (getD xs 0 0) c) (lines-named c n w (drop (line-size w) xs)) h .1))
+
+-- a cell that fits is a number or one of the 64 gaps
+pub fits-named : (t n : ℕ) → cell-fits t n ≡ true → has-name (cell-in t n) ≡ true
+fits-named zero n h = refl
+fits-named (suc zero) n h = grind (arith, tells)
+fits-named (suc (suc t)) n h = grind (arith, tells)
