@@ -2,3 +2,4 @@ pub mod Ask
 pub mod Reading
 pub mod Shapes
 pub mod Parts
+pub mod Tokens

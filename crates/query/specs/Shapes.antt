@@ -2,10 +2,14 @@
 -- begins.
 --
 --   test-of t          the test
+--   pairs-of ss        the lines and columns of each list, by the shapes of the lists
 --   query-of n ps      the question that begins with the first of the parts ps, read at most n parts deep
-use mathlib.Core.List.{List}
-use Prim.Native.Nat.{ℕ, zero, suc}
+use mathlib.Core.List.{List, map}
+use Prim.Native.Nat.{ℕ, zero, suc, _≤_, _<_}
 use lib.ListN.{getD, take, drop}
+use Rattle.std.specs.Iters.{counting}
+use Rattle.list.specs.Shapes.{shape-of}
+use Rattle.list.specs.declared.shape.Shapes.{Shapes}
 use Rattle.query.specs.Ask.{same, differ, is, is-not, Query, table, keep, columns, join, union, without}
 use Rattle.query.specs.Ask as asking
 use Rattle.query.specs.declared.Test.{Test}
@@ -39,3 +43,13 @@ query-by (Without second) w go = without (go 1) (go second)
 unfoldable pub query-of : ℕ → List Part → Query
 query-of zero ps = table 0
 query-of (suc n) ps = query-by (part-at ps 0 .sign) (part-at ps 0 .width) (λ i. query-of n (drop i ps))
+
+-- lines and columns of each list
+abbrev pub pairs-of : Shapes → List (ℕ × ℕ)
+pairs-of ss = map (λ t. (shape-of ss t .lines, shape-of ss t .width)) (counting 0 (ss .count))
+
+-- at most eight lists, each of at most 64 lines and 4 columns
+pub record Few (ss : Shapes) : Type 0 where
+  pub count : ss .count ≤ 8
+  pub lines : (t : ℕ) → t < ss .count → shape-of ss t .lines ≤ 64
+  pub width : (t : ℕ) → t < ss .count → shape-of ss t .width ≤ 4

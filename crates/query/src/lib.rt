@@ -1,6 +1,8 @@
 // Questions: signs in a slice of numbers, and what they ask of filled lists.
 ghost use Rattle.query.specs.Reading.{Few-lines};
 
+mod reading;
+
 // What a row may be tested for.
 #[derive(Clone, Copy)]
 pub enum Test {
