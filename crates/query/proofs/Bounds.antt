@@ -81,7 +81,7 @@ module _ (s t : Sized) (n m : ℕ) (l : n + m < 16) (f : Fine s n) (g : Fine t m
       record { h = f .h; some = f .some; half = omega (arith, f .half); lines = f .lines; width = f .width; cost = omega (arith, f .cost, g .cost, c) }
 
 -- every list has at most 64 lines and 4 columns
-abbrev Small : List (ℕ × ℕ) → Type 0
+abbrev pub Small : List (ℕ × ℕ) → Type 0
 Small ss = (t : ℕ) → (getD ss t (0, 0) .0 ≤ 64) × (getD ss t (0, 0) .1 ≤ 4)
 
 check-fine : (b : Bool) (at from : ℕ) (r : Read) → (b ≡ true → Fine-from from r) → Fine-from from (check b at r)
@@ -133,6 +133,34 @@ reads-fine (suc m) ss small at total low xs p = go (λ i ys q. reads-fine m ss s
         let l : 6 ≤ length xs = leb-true 6 (length xs) e in
         sign-fine m ss small at total low ih (sign-in (getD xs 0 0) (drop 1 xs)) (drop 6 xs) (simp length-drop (omega arith))
     go ih false e = tt
+
+-- what is known of a question that was read
+pub record Bounded (s : Sized) (at next : ℕ) : Type 0 where
+  pub ahead : at < next
+  pub within : next ≤ 16
+  pub lines : s .lines ≤ 2 ^ 48
+  pub width : s .width ≤ 8
+  pub cost : s .cost ≤ 2 ^ 57
+  pub fine : Fine s (next - at)
+
+pub reads-bounded : (m : ℕ) (ss : List (ℕ × ℕ)) → Small ss → (at : ℕ) (xs : List ℕ) → 6 * at + length xs ≤ 96 → (s : Sized) (next : ℕ) (rest : List ℕ) →
+    reads m ss at xs ≡ read s next rest → Bounded s at next × (6 * next + length rest ≤ 96)
+reads-bounded m ss small at xs low s next rest e =
+    let f : (n : ℕ) × (next ≡ at + n) × Fine s n = rw e at (reads-fine m ss small at (length xs + 6 * at) (omega arith) xs refl) in
+    let p : length rest + 6 * next ≡ length xs + 6 * at = rw e at (reads-placed m ss at (length xs + 6 * at) xs refl) in
+    let n : ℕ = f .0 in
+    let l : n ≤ 16 = omega (arith, f .1, p) in
+    let g : Fine s n = f .2 in
+    let k : 2 ^ (6 * g .h) ≤ 2 ^ 48 = few (g .h) n (g .half) l in
+    let d : n ≡ next - at = omega (arith, f .1) in
+    (record {
+        ahead = omega (arith, f .1, g .half, g .some); within = omega (arith, p); lines = omega (arith, g .lines, k); width = g .width;
+        cost = omega (arith, g .cost); fine = rw d at g }
+    , omega (arith, p))
+
+-- the lines of two questions behind one sign
+pub pairs-bounded : (s t : Sized) (at i j : ℕ) → at < i → i < j → j ≤ 16 → Fine s (i - (at + 1)) → Fine t (j - i) → s .lines * t .lines ≤ 2 ^ 48
+pairs-bounded s t at i j a b l f g = pairs-few s t (i - (at + 1)) (j - i) (omega arith) f g
 
 pub few-lines : Few-lines
 few-lines lists signs e =

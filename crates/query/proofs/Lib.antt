@@ -2,3 +2,5 @@ pub mod Placed
 pub mod Bounds
 pub mod Parting
 pub mod Tokens
+pub mod Columns
+pub mod Steps

@@ -91,11 +91,11 @@ module _ (n : ℕ) (ss : List (ℕ × ℕ)) (at : ℕ) (mid : List Part) (p : Pa
       length mid ≡ length before → ((i : ℕ) → (i < at) ⊎ (next ≤ i) → part-at mid i ≡ part-at before i) →
       Numbers p s → sized-by (p .sign) (p .width) ss (λ i. sized-of n ss (drop i written)) ≡ s →
       Fits-by (p .sign) (p .width) ss (λ i. sized-of n ss (drop i written)) → Needs-by (p .sign) (next - at) (λ i v. Parted n ss v (drop i written)) →
-      Reads (suc n) ss at xs before (set mid at p) next
+      Reads (suc n) ss at xs before (set mid at p) next rest
   unfolding sized-of Parted
   laid xs before next s rest is ahead fits long kept numbers sizes inside needs =
       record {
-          question = s; rest = rest; is = is; ahead = ahead;
+          question = s; is = is; ahead = ahead;
           parts = rw written-first (simp (length-drop, length-set) (omega arith), rw sizes numbers, inside, needs);
           sizes = rw written-first sizes; long = length-set mid at p ∙ long;
           kept = λ i h. getD-set-other mid at i p no-part (omega arith) ∙ kept i h }
@@ -111,15 +111,15 @@ parted-within zero ss u ps p = absurd p
 parted-within (suc n) ss u ps p = p .0
 
 -- the part at which a question that was read begins
-pub first-part : (n : ℕ) (ss : List (ℕ × ℕ)) (at : ℕ) (xs : List ℕ) (before after : List Part) (next : ℕ) → (r : Reads n ss at xs before after next) →
+pub first-part : (n : ℕ) (ss : List (ℕ × ℕ)) (at : ℕ) (xs : List ℕ) (before after : List Part) (next : ℕ) (rest : List ℕ) → (r : Reads n ss at xs before after next rest) →
     Numbers (part-at after at) (r .question)
-first-part n ss at xs before after next r =
+first-part n ss at xs before after next rest r =
     let z : at + 0 ≡ at = omega arith in
     let e : part-at (drop at after) 0 ≡ part-at after at = part-drop after at 0 ∙ ap (λ (i : ℕ). part-at after i) z in
     rw (← e, ← r .sizes) (parted-numbers n ss (next - at) (drop at after) (r .parts))
 
-pub ends-within : (n : ℕ) (ss : List (ℕ × ℕ)) (at : ℕ) (xs : List ℕ) (before after : List Part) (next : ℕ) → at ≤ length after → Reads n ss at xs before after next → next ≤ length after
-ends-within n ss at xs before after next l r =
+pub ends-within : (n : ℕ) (ss : List (ℕ × ℕ)) (at : ℕ) (xs : List ℕ) (before after : List Part) (next : ℕ) (rest : List ℕ) → at ≤ length after → Reads n ss at xs before after next rest → next ≤ length after
+ends-within n ss at xs before after next rest l r =
     let p : next - at ≤ length (drop at after) = parted-within n ss (next - at) (drop at after) (r .parts) in
     omega (arith, r .ahead, length-drop at after)
 
@@ -161,7 +161,7 @@ module _ (n : ℕ) (ss : List (ℕ × ℕ)) (at : ℕ) (xs : List ℕ) (six : 6 
   none-bad e = step no-sign e
 
   pub list-part : (t lines width : ℕ) (before : List Part) → at < length before → sign ≡ a-list t → t < length ss → getD ss t (0, 0) ≡ (lines, width) →
-      Reads (suc n) ss at xs before (set before at (record { sign = Rows t; lines = lines; width = width; cost = 0 })) (at + 1)
+      Reads (suc n) ss at xs before (set before at (record { sign = Rows t; lines = lines; width = width; cost = 0 })) (at + 1) (drop 6 xs)
   list-part t lines width before within e l shape =
       let one : at + 1 - at ≡ 1 = omega arith in
       laid n ss at before (record { sign = Rows t; lines = lines; width = width; cost = 0 }) within xs before (at + 1) (of-list t (getD ss t (0, 0))) (drop 6 xs)
@@ -169,18 +169,18 @@ module _ (n : ℕ) (ss : List (ℕ × ℕ)) (at : ℕ) (xs : List ℕ) (six : 6 
           (rw shape (record { lines = refl; width = refl; cost = refl })) refl l one
 
   -- a sign with one question behind it
-  module _ (before mid : List Part) (next : ℕ) (long : at < length before) (r : Reads n ss (at + 1) (drop 6 xs) before mid next) where
-    inner : reads n ss (suc at) (drop 6 xs) ≡ read (r .question) next (r .rest)
+  module _ (before mid : List Part) (next : ℕ) (rest : List ℕ) (long : at < length before) (r : Reads n ss (at + 1) (drop 6 xs) before mid next rest) where
+    inner : reads n ss (suc at) (drop 6 xs) ≡ read (r .question) next rest
     inner = let e : suc at ≡ at + 1 = omega arith in ap (λ (i : ℕ). reads n ss i (drop 6 xs)) e ∙ r .is
 
     within : at < length mid
     within = omega (arith, r .long)
 
     ends : next ≤ length mid
-    ends = ends-within n ss (at + 1) (drop 6 xs) before mid next (omega (arith, r .long)) r
+    ends = ends-within n ss (at + 1) (drop 6 xs) before mid next rest (omega (arith, r .long)) r
 
     pub sub-numbers : Numbers (part-at mid (at + 1)) (r .question)
-    sub-numbers = first-part n ss (at + 1) (drop 6 xs) before mid next r
+    sub-numbers = first-part n ss (at + 1) (drop 6 xs) before mid next rest r
 
     wider : (i : ℕ) → (i < at) ⊎ (next ≤ i) → (i < at + 1) ⊎ (next ≤ i)
     wider i (inl l) = inl (omega arith)
@@ -194,10 +194,10 @@ module _ (n : ℕ) (ss : List (ℕ × ℕ)) (at : ℕ) (xs : List ℕ) (six : 6 
     sub-parted p = let e : next - at - 1 ≡ next - (at + 1) = omega arith in rw (e, written-later n ss at mid p within 1 (omega arith)) (r .parts)
 
     pub test-part : (t : Test) → sign ≡ a-test (test-of t) → test-fits (test-of t) (r .question .width) ≡ true → (cost : ℕ) → cost ≡ r .question .cost + 3 * r .question .lines →
-        Reads (suc n) ss at xs before (set mid at (record { sign = Keep t; lines = part-at mid (at + 1) .lines; width = part-at mid (at + 1) .width; cost = cost })) next
+        Reads (suc n) ss at xs before (set mid at (record { sign = Keep t; lines = part-at mid (at + 1) .lines; width = part-at mid (at + 1) .width; cost = cost })) next rest
     test-part t e fits cost c =
         let p : Part = record { sign = Keep t; lines = part-at mid (at + 1) .lines; width = part-at mid (at + 1) .width; cost = cost } in
-        laid n ss at mid p within xs before next (of-test (test-of t) (r .question)) (r .rest)
+        laid n ss at mid p within xs before next (of-test (test-of t) (r .question)) rest
             (step (a-test (test-of t)) e ∙ rw (inner, fits) refl) (omega (arith, r .ahead)) ends (r .long) (λ i h. r .kept i (wider i h))
             (record { lines = sub-numbers .lines; width = sub-numbers .width; cost = c }) (ap (of-test (test-of t)) (sub-sized p))
             (rw (sub-sized p) fits) (omega (arith, r .ahead), sub-parted p)
@@ -206,10 +206,10 @@ module _ (n : ℕ) (ss : List (ℕ × ℕ)) (at : ℕ) (xs : List ℕ) (six : 6 
     test-bad t e off = step (a-test (test-of t)) e ∙ rw (inner, off) refl
 
     pub columns-part : (k : ℕ) (cs ps : List ℕ) → sign ≡ some-columns k ps → length cs ≡ 4 → take k cs ≡ ps → 1 ≤ k → k ≤ 4 → all-below (r .question .width) ps ≡ true →
-        Reads (suc n) ss at xs before (set mid at (record { sign = Columns cs; lines = part-at mid (at + 1) .lines; width = k; cost = part-at mid (at + 1) .cost })) next
+        Reads (suc n) ss at xs before (set mid at (record { sign = Columns cs; lines = part-at mid (at + 1) .lines; width = k; cost = part-at mid (at + 1) .cost })) next rest
     columns-part k cs ps e four same low high below =
         let p : Part = record { sign = Columns cs; lines = part-at mid (at + 1) .lines; width = k; cost = part-at mid (at + 1) .cost } in
-        laid n ss at mid p within xs before next (of-columns k ps (r .question)) (r .rest)
+        laid n ss at mid p within xs before next (of-columns k ps (r .question)) rest
             (step (some-columns k ps) e ∙ rw (inner, le-leb 1 k low, le-leb k 4 high, below) refl) (omega (arith, r .ahead)) ends (r .long) (λ i h. r .kept i (wider i h))
             (record { lines = sub-numbers .lines; width = refl; cost = sub-numbers .cost }) (rw (sub-sized p, same) refl)
             (rw (sub-sized p, same) (four, low, high, below)) (omega (arith, r .ahead), sub-parted p)
@@ -218,12 +218,12 @@ module _ (n : ℕ) (ss : List (ℕ × ℕ)) (at : ℕ) (xs : List ℕ) (six : 6 
     columns-bad k ps e off = step (some-columns k ps) e ∙ rw (inner, off) refl
 
     -- a sign with two questions behind it
-    module _ (after : List Part) (end : ℕ) (q : Reads n ss next (r .rest) mid after end) where
+    module _ (after : List Part) (end : ℕ) (last : List ℕ) (q : Reads n ss next rest mid after end last) where
       within-after : at < length after
       within-after = omega (arith, q .long, within)
 
       end-after : end ≤ length after
-      end-after = ends-within n ss next (r .rest) mid after end (omega (arith, q .long, ends)) q
+      end-after = ends-within n ss next rest mid after end last (omega (arith, q .long, ends)) q
 
       -- the first question stands as it stood before the second was read
       first-after : Parted n ss (next - (at + 1)) (drop (at + 1) after) × (sized-of n ss (drop (at + 1) after) ≡ sized-of n ss (drop (at + 1) mid))
@@ -235,7 +235,7 @@ module _ (n : ℕ) (ss : List (ℕ × ℕ)) (at : ℕ) (xs : List ℕ) (six : 6 
       first-numbers = let a : at + 1 < next = r .ahead in rw (q .kept (at + 1) (inl a)) sub-numbers
 
       pub second-numbers : Numbers (part-at after next) (q .question)
-      second-numbers = first-part n ss next (r .rest) mid after end q
+      second-numbers = first-part n ss next rest mid after end last q
 
       one-sized : (p : Part) → sized-of n ss (drop 1 (drop at (set after at p))) ≡ r .question
       one-sized p = ap (sized-of n ss) (written-later n ss at after p within-after 1 (omega arith)) ∙ (first-after .1 ∙ r .sizes)
@@ -266,30 +266,30 @@ module _ (n : ℕ) (ss : List (ℕ × ℕ)) (at : ℕ) (xs : List ℕ) (six : 6 
 
       abbrev Pair : Part → Sized → Type 0
       Pair p s =
-          reads (suc n) ss at xs ≡ read s end (q .rest) → Numbers p s → sized-by (p .sign) (p .width) ss (λ i. sized-of n ss (drop i (drop at (set after at p)))) ≡ s →
+          reads (suc n) ss at xs ≡ read s end last → Numbers p s → sized-by (p .sign) (p .width) ss (λ i. sized-of n ss (drop i (drop at (set after at p)))) ≡ s →
           Fits-by (p .sign) (p .width) ss (λ i. sized-of n ss (drop i (drop at (set after at p)))) →
-          Needs-by (p .sign) (end - at) (λ i v. Parted n ss v (drop i (drop at (set after at p)))) → Reads (suc n) ss at xs before (set after at p) end
+          Needs-by (p .sign) (end - at) (λ i v. Parted n ss v (drop i (drop at (set after at p)))) → Reads (suc n) ss at xs before (set after at p) end last
 
       pair : (p : Part) (s : Sized) → Pair p s
       pair p s is numbers sizes fits needs =
-          laid n ss at after p within-after xs before end s (q .rest) is (omega (arith, r .ahead, q .ahead)) end-after (q .long ∙ r .long) kept-after numbers sizes fits needs
+          laid n ss at after p within-after xs before end s last is (omega (arith, r .ahead, q .ahead)) end-after (q .long ∙ r .long) kept-after numbers sizes fits needs
 
       pub join-part : (lines width cost : ℕ) → sign ≡ a-join → r .question .width + q .question .width ≤ 8 → Numbers (record { sign = Join (next - at); lines = lines; width = width; cost = cost }) (of-join (r .question) (q .question)) →
-          Reads (suc n) ss at xs before (set after at (record { sign = Join (next - at); lines = lines; width = width; cost = cost })) end
+          Reads (suc n) ss at xs before (set after at (record { sign = Join (next - at); lines = lines; width = width; cost = cost })) end last
       join-part lines width cost e fits numbers =
           let p : Part = record { sign = Join (next - at); lines = lines; width = width; cost = cost } in
           pair p (of-join (r .question) (q .question)) (step a-join e ∙ rw (inner, q .is, le-leb (r .question .width + q .question .width) 8 fits) refl) numbers
               (rw (one-sized p, two-sized p) refl) (rw (one-sized p, two-sized p) fits) (omega (arith, r .ahead), omega (arith, r .ahead, q .ahead), one-parted p, two-parted p)
 
       pub union-part : (lines width cost : ℕ) → sign ≡ a-union → r .question .width ≡ q .question .width → Numbers (record { sign = Union (next - at); lines = lines; width = width; cost = cost }) (of-union (r .question) (q .question)) →
-          Reads (suc n) ss at xs before (set after at (record { sign = Union (next - at); lines = lines; width = width; cost = cost })) end
+          Reads (suc n) ss at xs before (set after at (record { sign = Union (next - at); lines = lines; width = width; cost = cost })) end last
       union-part lines width cost e same numbers =
           let p : Part = record { sign = Union (next - at); lines = lines; width = width; cost = cost } in
           pair p (of-union (r .question) (q .question)) (step a-union e ∙ rw (inner, q .is, eq-eqb (r .question .width) (q .question .width) same) refl) numbers
               (rw (one-sized p, two-sized p) refl) (rw (one-sized p, two-sized p) same) (omega (arith, r .ahead), omega (arith, r .ahead, q .ahead), one-parted p, two-parted p)
 
       pub without-part : (lines width cost : ℕ) → sign ≡ a-without → r .question .width ≡ q .question .width → Numbers (record { sign = Without (next - at); lines = lines; width = width; cost = cost }) (of-without (r .question) (q .question)) →
-          Reads (suc n) ss at xs before (set after at (record { sign = Without (next - at); lines = lines; width = width; cost = cost })) end
+          Reads (suc n) ss at xs before (set after at (record { sign = Without (next - at); lines = lines; width = width; cost = cost })) end last
       without-part lines width cost e same numbers =
           let p : Part = record { sign = Without (next - at); lines = lines; width = width; cost = cost } in
           pair p (of-without (r .question) (q .question)) (step a-without e ∙ rw (inner, q .is, eq-eqb (r .question .width) (q .question .width) same) refl) numbers
@@ -305,7 +305,7 @@ module _ (n : ℕ) (ss : List (ℕ × ℕ)) (at : ℕ) (xs : List ℕ) (six : 6 
       without-bad e off = step a-without e ∙ rw (inner, q .is, ne-eqb (r .question .width) (q .question .width) off) refl
 
     -- the second question can't be read
-    pub second-bad : (k : ReadingSign) → Pairs k → sign ≡ k → (off : ℕ) → reads n ss next (r .rest) ≡ bad off → reads (suc n) ss at xs ≡ bad off
+    pub second-bad : (k : ReadingSign) → Pairs k → sign ≡ k → (off : ℕ) → reads n ss next rest ≡ bad off → reads (suc n) ss at xs ≡ bad off
     second-bad a-join h e off b = step a-join e ∙ rw (inner, b) refl
     second-bad a-union h e off b = step a-union e ∙ rw (inner, b) refl
     second-bad a-without h e off b = step a-without e ∙ rw (inner, b) refl

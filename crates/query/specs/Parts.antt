@@ -61,10 +61,10 @@ Parted (suc n) ss u ps =
     × Fits-by (part-at ps 0 .sign) (part-at ps 0 .width) ss (λ i. sized-of n ss (drop i ps))
     × Needs-by (part-at ps 0 .sign) u (λ i v. Parted n ss v (drop i ps))
 
--- the question that begins at sign number at stands in the parts from there on up to next, and the others are as they were
-pub record Reads (n : ℕ) (ss : List (ℕ × ℕ)) (at : ℕ) (xs : List ℕ) (before after : List Part) (next : ℕ) : Type 0 where
+-- the question that begins at sign number at stands in the parts from there on up to next, the others are as they were, and rest
+-- are the numbers left
+pub record Reads (n : ℕ) (ss : List (ℕ × ℕ)) (at : ℕ) (xs : List ℕ) (before after : List Part) (next : ℕ) (rest : List ℕ) : Type 0 where
   pub question : Sized
-  pub rest : List ℕ
   pub is : reads n ss at xs ≡ read question next rest
   pub ahead : at < next
   pub parts : Parted n ss (next - at) (drop at after)
