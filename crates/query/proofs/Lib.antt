@@ -4,3 +4,4 @@ pub mod Parting
 pub mod Tokens
 pub mod Columns
 pub mod Steps
+pub mod Telling

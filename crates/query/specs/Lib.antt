@@ -3,3 +3,4 @@ pub mod Reading
 pub mod Shapes
 pub mod Parts
 pub mod Tokens
+pub mod Questions

@@ -1,7 +1,10 @@
 // Questions: signs in a slice of numbers, and what they ask of filled lists.
 ghost use Rattle.query.specs.Reading.{Few-lines};
 
+mod question;
 mod reading;
+
+pub use question::Question;
 
 // What a row may be tested for.
 #[derive(Clone, Copy)]

@@ -58,14 +58,14 @@ fn token_at(signs: &[u64]) -> Option<Token>
 
 // What is left once a question was read: the number of the next sign, and the numbers from there on.
 #[derive(Clone, Copy)]
-struct Reading<'a> {
-    next: usize,
+pub(crate) struct Reading<'a> {
+    pub(crate) next: usize,
     rest: &'a [u64],
 }
 
 // Reads the question at the front of the signs that are left into the parts from `at` on, at most `left` signs deep; or tells the
 // sign that can't be read.
-fn read<'a>(signs: &'a [u64], left: u64, at: usize, shapes: Shapes, parts: &mut [Part]) -> Result<Reading<'a>, usize>
+pub(crate) fn read<'a>(signs: &'a [u64], left: u64, at: usize, shapes: Shapes, parts: &mut [Part]) -> Result<Reading<'a>, usize>
     requires long { ⌜ length (now parts) ≡ 16 ⌝ }
     requires few { ⌜ 6 * at + length (now signs) ≤ 96 ⌝ }
     requires shapes { ⌜ Few shapes ⌝ }

@@ -1,0 +1,64 @@
+// Questions that were read: their signs, and how large their answers are.
+ghost use mathlib.Core.Path.{_≡_};
+ghost use Prim.Native.Nat.{ℕ, _*_, _≤_, _<_};
+ghost use lib.ListN.{length, take};
+ghost use Rattle.std.specs.Vec.{made};
+ghost use Rattle.condition.specs.Refusals.{outcome, first};
+ghost use Rattle.list.specs.Layout.{lists-told};
+ghost use Rattle.list.specs.Layout as layout;
+ghost use Rattle.query.specs.Reading.{asked, reads, sized, question-told, size-told};
+ghost use Rattle.query.specs.Shapes.{part-at, pairs-of, Few};
+ghost use Rattle.query.specs.Questions.{Stands};
+use crate::Part;
+use crate::Sign;
+use crate::reading::read;
+use condition::Refusal;
+use list::Shapes;
+use list::check_lists;
+
+// A question of at most 16 signs, by its parts.
+#[derive(Clone, Copy)]
+pub struct Question {
+    parts: [Part; 16],
+    signs: usize,
+}
+
+impl Question {
+    // The question that the signs ask of lists of these shapes; or why it can't be read, or is too large.
+    pub fn within(shapes: Shapes, signs: &[u64]) -> Result<Question, Refusal>
+        requires { ⌜ Few shapes ⌝ }
+        ensures refusal { λ r. ⌜ outcome r ≡ first (question-told (reads 16 (pairs-of shapes) 0 (take 96 (now (signs .entry)))) (now (signs .entry))) (size-told (sized (reads 16 (pairs-of shapes) 0 (take 96 (now (signs .entry)))))) ⌝ }
+        ensures value { λ r. ⌜ made r (λ q. Stands (pairs-of shapes) (reads 16 (pairs-of shapes) 0 (take 96 (now (signs .entry)))) (q .parts) (q .signs)) ⌝ }
+    {
+        let mut parts = [Part {
+            sign: Sign::Rows(0),
+            lines: 0,
+            width: 0,
+            cost: 0,
+        }; 16];
+        let next = match read(front(signs), 16, 0, shapes, &mut parts) {
+            Ok(p) => p.next,
+            Err(off) => return Err(Refusal::BadQuestion(off as u64)),
+        };
+        if 6 * next != signs.len() {
+            return Err(Refusal::BadQuestion(next as u64));
+        }
+        if parts[0].lines > 4096 {
+            return Err(Refusal::TooManyLines);
+        }
+        if parts[0].cost > 65536 {
+            return Err(Refusal::TooCostly);
+        }
+        Ok(Question { parts, signs: next })
+    }
+}
+
+// At most the numbers of 16 signs.
+fn front(signs: &[u64]) -> &[u64]
+    ensures { λ r. ⌜ now r ≡ take 96 (now (signs .entry)) ⌝ }
+{
+    if signs.len() > 96 {
+        return &signs[0..96];
+    }
+    signs
+}
