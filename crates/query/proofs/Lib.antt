@@ -5,3 +5,4 @@ pub mod Tokens
 pub mod Columns
 pub mod Steps
 pub mod Telling
+pub mod Shaping

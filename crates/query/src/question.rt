@@ -24,6 +24,45 @@ pub struct Question {
 }
 
 impl Question {
+    // The question that the signs ask of the lists; or why the lists are none, or it can't be read, or is too large.
+    pub fn read(lists: &[u64], signs: &[u64]) -> Result<Question, Refusal>
+        ensures refusal { λ r. ⌜ outcome r ≡ first (lists-told (now (lists .entry))) (first (question-told (asked (now (lists .entry)) (now (signs .entry))) (now (signs .entry))) (size-told (sized (asked (now (lists .entry)) (now (signs .entry)))))) ⌝ }
+        ensures value { λ r. ⌜ made r (λ q. Stands (layout.shapes (now (lists .entry))) (asked (now (lists .entry)) (now (signs .entry))) (q .parts) (q .signs)) ⌝ }
+    {
+        match check_lists(lists) {
+            Ok(_) => Question::within(Shapes::of(lists), signs),
+            Err(refusal) => Err(refusal),
+        }
+    }
+
+    // How many lines its answer has, at most 4,096.
+    pub fn lines(&self) -> u64
+        ensures { λ r. ⌜ r ≡ part-at (now (self .entry) .parts) 0 .lines ⌝ }
+    {
+        self.parts[0].lines
+    }
+
+    // How many columns its answer has.
+    pub fn width(&self) -> usize
+        ensures { λ r. ⌜ r ≡ part-at (now (self .entry) .parts) 0 .width ⌝ }
+    {
+        self.parts[0].width
+    }
+
+    // How many nodes its answer's conditions may take, at most 65,536.
+    pub fn cost(&self) -> u64
+        ensures { λ r. ⌜ r ≡ part-at (now (self .entry) .parts) 0 .cost ⌝ }
+    {
+        self.parts[0].cost
+    }
+
+    // Its parts, in reading order; those past its signs are not looked at.
+    pub fn parts(&self) -> &[Part]
+        ensures { λ r. ⌜ now r ≡ now (self .entry) .parts ⌝ }
+    {
+        &self.parts
+    }
+
     // The question that the signs ask of lists of these shapes; or why it can't be read, or is too large.
     pub fn within(shapes: Shapes, signs: &[u64]) -> Result<Question, Refusal>
         requires { ⌜ Few shapes ⌝ }
