@@ -9,7 +9,8 @@ use borrow.Rule.Slice.PartMut.{putMid}
 use Rattle.std.proofs.shelf.Lists.{drop-all, append-nil, getD-append-left, getD-append-right, getD-take, getD-drop, getD-set-same, getD-set-other, length-append, length-set}
 use Rattle.condition.specs.Cond.{Cond}
 use Rattle.condition.specs.Store.{node, earlier, cond-deep, count, cond-at, Grown}
-use Rattle.condition.specs.Shapes.{node-of, Five}
+use Rattle.condition.specs.Shapes.{node-of}
+use Rattle.condition.specs.Nodes.{Five}
 use Rattle.condition.specs.declared.Node.{Node}
 use Rattle.condition.proofs.Fuel.{unrolled, deep-same, node-same, earlier-same, at-within, node-five}
 

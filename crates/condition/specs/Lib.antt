@@ -2,3 +2,4 @@ pub mod Cond
 pub mod Refusals
 pub mod Store
 pub mod Shapes
+pub mod Nodes

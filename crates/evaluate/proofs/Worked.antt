@@ -10,7 +10,8 @@ use Rattle.std.proofs.shelf.Lists.{getD-read, getD-take, getD-append-left}
 use Rattle.std.proofs.shelf.Tests.{cases-lt, lt-ltb, le-ltb}
 use Rattle.condition.specs.Cond.{Cond}
 use Rattle.condition.specs.Store.{earlier, count, cond-at}
-use Rattle.condition.specs.Shapes.{node-of, Named, decoded}
+use Rattle.condition.specs.Shapes.{node-of, Named}
+use Rattle.condition.specs.Nodes.{decoded}
 use Rattle.condition.specs.declared.Node.{Node}
 use Rattle.condition.specs.declared.Node.the-variants.{Always, Never, Equal, Not, Both, Either}
 use Rattle.condition.proofs.Fuel.{at-past}
