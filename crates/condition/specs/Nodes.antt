@@ -2,20 +2,19 @@
 --
 --   node-from k a b c d      the node that five numbers are read as
 --   decoded nodes i          the node that the five numbers at place i of a store are read as
---   Five n xs                the first five numbers of xs are those of the node n
+--   five n                   the five numbers that are written for the node n
 --   Added xs ys n i          ys is the store xs with the node n added, at place i
 --   behind n i               whether all places that the node n names lie before i
 --   Stands-as nodes i n      the node n stands at place i of a store, behind all that it names
 --   Found nodes n i          i is the lowest place of a store at which n stands so
 --   Lacks nodes n            it stands so nowhere, or there is no store
-use mathlib.Core.List.{List}
+use mathlib.Core.List.{List, [], _∷_}
 use mathlib.Core.Path.{_≡_}
 use mathlib.Core.Bool.{Bool, true, _&&_, cond as if}
 use Prim.Native.Nat.{ℕ, zero, suc, _+_, _*_, _<_}
 use lib.Dec.{ltb}
 use lib.ListN.{getD}
-use Rattle.condition.specs.Cond.{Cond}
-use Rattle.condition.specs.Store.{has-name, node, count, cond-at, store-fits, Grown}
+use Rattle.condition.specs.Store.{has-name, count, cond-at, store-fits, Grown}
 use Rattle.condition.specs.Shapes.{cell-of, node-of}
 use Rattle.condition.specs.declared.Cell.{Cell}
 use Rattle.condition.specs.declared.Cell.the-variants.{Number, Gap}
@@ -42,12 +41,27 @@ abbrev pub decoded : List ℕ → ℕ → Node
 decoded nodes i =
     node-from (getD nodes (1 + 5 * i) 0) (getD nodes (1 + 5 * i + 1) 0) (getD nodes (1 + 5 * i + 2) 0) (getD nodes (1 + 5 * i + 3) 0) (getD nodes (1 + 5 * i + 4) 0)
 
-abbrev pub Five : Node → List ℕ → Type 0
-Five n xs = (go : ℕ → Cond) → node-of n go ≡ node (getD xs 0 0) (getD xs 1 0) (getD xs 2 0) (getD xs 3 0) (getD xs 4 0) go
+-- the two numbers of a cell
+abbrev pub tag : Cell → ℕ
+tag (Number n) = 0
+tag (Gap k) = 1
+
+abbrev pub name : Cell → ℕ
+name (Number n) = n
+name (Gap k) = k
+
+abbrev pub five : Node → List ℕ
+five Always = 0 ∷ (0 ∷ (0 ∷ (0 ∷ (0 ∷ []))))
+five Never = 1 ∷ (0 ∷ (0 ∷ (0 ∷ (0 ∷ []))))
+five (Equal a b) = 2 ∷ (tag a ∷ (name a ∷ (tag b ∷ (name b ∷ []))))
+five (Not a) = 3 ∷ (a ∷ (0 ∷ (0 ∷ (0 ∷ []))))
+five (Both a b) = 4 ∷ (a ∷ (b ∷ (0 ∷ (0 ∷ []))))
+five (Either a b) = 5 ∷ (a ∷ (b ∷ (0 ∷ (0 ∷ []))))
 
 pub record Added (xs ys : List ℕ) (n : Node) (i : ℕ) : Type 0 where
   pub place : i ≡ count xs
   pub more : count ys ≡ i + 1
+  pub numbers : (k : ℕ) → k < 5 → getD ys (1 + 5 * i + k) 0 ≡ getD (five n) k 0
   pub grown : Grown xs ys
   pub stays : (j : ℕ) → j < i → cond-at ys j ≡ cond-at xs j
   pub new : cond-at ys i ≡ node-of n (cond-at xs)
