@@ -3,6 +3,7 @@ use mathlib.Core.Path.{_≡_, refl, sym, _∙_, ap}
 use mathlib.Core.List.{List, [], _∷_, _++_}
 use mathlib.Core.Logic.{_≢_}
 use Prim.Native.Nat.{ℕ, zero, suc, _+_, _-_, _*_, _≤_, _<_}
+use native.Mathlib.Nat.{add-zero}
 use native.Mathlib.Omega.{arith}
 use lib.Dec.{lit<}
 use lib.ListN.{length, getD, take, drop, set, length-take, length-drop}
@@ -10,8 +11,8 @@ use borrow.Rule.Slice.PartMut.{putMid}
 use Rattle.std.proofs.shelf.Lists.{drop-all, append-nil, getD-append-left, getD-append-right, getD-take, getD-drop, getD-set-same, getD-set-other, length-append, length-set}
 use Rattle.condition.specs.Cond.{Cond}
 use Rattle.condition.specs.Store.{node, earlier, cond-deep, count, cond-at, Grown}
-use Rattle.condition.specs.Shapes.{node-of}
-use Rattle.condition.specs.Nodes.{five}
+use Rattle.condition.specs.Shapes.{node-of, Named}
+use Rattle.condition.specs.Nodes.{node-from, decoded, five, Added}
 use Rattle.condition.specs.declared.Cell.the-variants.{Number, Gap}
 use Rattle.condition.specs.declared.Node.{Node}
 use Rattle.condition.specs.declared.Node.the-variants.{Always, Never, Equal, Not, Both, Either}
@@ -118,3 +119,21 @@ module _ (xs ys : List ℕ) (fits : 6 + 5 * count xs ≤ length xs) (size : leng
       (earlier-same (count xs) (λ j. cond-deep (suc j) (drop 1 after) j) (λ j. cond-deep (suc j) (drop 1 xs) j)
       (λ j l. deep-same (suc j) (drop 1 after) (drop 1 xs) j (λ k m. rw (getD-drop 1 after k 0, getD-drop 1 xs k 0) (front (1 + k) (omega arith) (omega arith)))))
       ∙ sym (five-node n ys f (cond-at xs)))))
+
+five-read : (n : Node) → Named n → node-from (getD (five n) 0 0) (getD (five n) 1 0) (getD (five n) 2 0) (getD (five n) 3 0) (getD (five n) 4 0) ≡ n
+five-read Always m = refl
+five-read Never m = refl
+five-read (Equal (Number a) (Number b)) m = refl
+five-read (Equal (Number a) (Gap b)) m = rw (m .1) refl
+five-read (Equal (Gap a) (Number b)) m = rw (m .0) refl
+five-read (Equal (Gap a) (Gap b)) m = rw (m .0, m .1) refl
+five-read (Not a) m = refl
+five-read (Both a b) m = refl
+five-read (Either a b) m = refl
+
+-- a node that was added is read back, unless it compares a gap above 63
+pub added-decoded : (xs ys : List ℕ) (n : Node) (i : ℕ) → Added xs ys n i → Named n → decoded ys i ≡ n
+added-decoded xs ys n i a m =
+    let h = a .numbers in
+    let z : getD ys (1 + 5 * i) 0 ≡ getD (five n) 0 0 = ap (λ t. getD ys t 0) (sym (add-zero (1 + 5 * i))) ∙ h 0 (lit< tt) in
+    rw (z, h 1 (lit< tt), h 2 (lit< tt), h 3 (lit< tt), h 4 (lit< tt)) (five-read n m)

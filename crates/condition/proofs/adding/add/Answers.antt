@@ -18,7 +18,7 @@ returns c =
       place = refl;
       count = counted xs ys (c .pre) s;
       numbers = numbered xs ys (c .pre) s (c .args .node) (c .write .ensures .new);
-    grown = g;
+      grown = g;
       stays = grown-cond xs _ g;
       new = added xs ys (c .pre) s (c .args .node) (c .write .ensures .new);
     }

@@ -7,5 +7,6 @@ pub returns : need.returns
 returns c =
     let xs = c .args .front .now in let fs = c .five-five .result in
     record {
-    new = λ k l. overwritten-front xs fs (c .pre) k l ∙ ap (λ t. getD t k 0) (c .five-five .ensures);
-    past = overwritten-past xs fs (c .pre) }
+      new = λ k l. overwritten-front xs fs (c .pre) k l ∙ ap (λ t. getD t k 0) (c .five-five .ensures);
+      past = overwritten-past xs fs (c .pre);
+    }
