@@ -8,7 +8,8 @@ use lib.ListN.{length, getD, drop}
 use Rattle.std.proofs.shelf.Tests.{and-parts}
 use Rattle.condition.specs.Cond.{Cond}
 use Rattle.condition.specs.Store.{cell-in, comparison, has-name, node, node-in, earlier, count, cond-at}
-use Rattle.condition.specs.Shapes.{cell-of, node-of, cell-from, compared, node-from, decoded, behind, Stands-as}
+use Rattle.condition.specs.Shapes.{cell-of, node-of}
+use Rattle.condition.specs.Nodes.{cell-from, compared, node-from, decoded, behind, Stands-as}
 use Rattle.condition.specs.declared.Cell.{Cell}
 use Rattle.condition.specs.declared.Cell.the-variants.{Number, Gap}
 use Rattle.condition.specs.declared.Node.{Node}

@@ -3,3 +3,4 @@ pub mod Refusals
 pub mod Store
 pub mod Shapes
 pub mod Text
+pub mod Nodes

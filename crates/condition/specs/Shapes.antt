@@ -1,25 +1,14 @@
 -- What the code's types stand for.
 --
---   cell-of c          the cell
---   node-of n go       the condition, where go gives those at other places
---   Named n            the cells of a node are numbers or of the 64 gaps
---   node-from k a b c d    the node that five numbers are read as
---   decoded nodes i    the node that the five numbers at place i of a store are read as
---   Five n xs          the first five numbers of xs are those of the node n
---   Added xs ys n i    ys is the store xs with the node n added, at place i
---   behind n i         whether all places that a node names lie before i
---   Stands-as nodes i n    the node n stands at place i, behind all that it names
---   Found nodes n i    i is the lowest place of a store at which n stands
---   Lacks nodes n      there is none, or no store
-use mathlib.Core.List.{List}
+--   cell-of c        the cell
+--   node-of n go     the condition, where go gives those at other places
+--   Named n          the cells of a node are numbers or of the 64 gaps
+use Prim.Native.Nat.{ℕ}
 use mathlib.Core.Path.{_≡_}
-use mathlib.Core.Bool.{Bool, true, _&&_, cond as if}
-use Prim.Native.Nat.{ℕ, zero, suc, _+_, _*_, _<_}
-use lib.Dec.{ltb}
-use lib.ListN.{getD}
+use mathlib.Core.Bool.{true}
 use Rattle.condition.specs.Cond.{known, gap, Cond, always, never, not-so, both, either}
 use Rattle.condition.specs.Cond as conditions
-use Rattle.condition.specs.Store.{comparison, has-name, node, count, cond-at, store-fits, Grown}
+use Rattle.condition.specs.Store.{comparison, has-name}
 use Rattle.condition.specs.declared.Cell.{Cell}
 use Rattle.condition.specs.declared.Cell.the-variants.{Number, Gap}
 use Rattle.condition.specs.declared.Node.{Node}
@@ -44,55 +33,3 @@ Named (Equal a b) = (has-name (cell-of a) ≡ true) × (has-name (cell-of b) ≡
 Named (Not a) = Unit {0}
 Named (Both a b) = Unit {0}
 Named (Either a b) = Unit {0}
-
-abbrev pub cell-from : ℕ → ℕ → Cell
-cell-from zero n = Number n
-cell-from (suc t) k = Gap k
-
--- never where one of the cells is no gap of the 64
-abbrev pub compared : Cell → Cell → Node
-compared a b = if (has-name (cell-of a) && has-name (cell-of b)) (Equal a b) Never
-
-abbrev pub node-from : ℕ → ℕ → ℕ → ℕ → ℕ → Node
-node-from zero a b c d = Always
-node-from (suc zero) a b c d = Never
-node-from (suc (suc zero)) a b c d = compared (cell-from a b) (cell-from c d)
-node-from (suc (suc (suc zero))) a b c d = Not a
-node-from (suc (suc (suc (suc zero)))) a b c d = Both a b
-node-from (suc (suc (suc (suc (suc k))))) a b c d = Either a b
-
-abbrev pub decoded : List ℕ → ℕ → Node
-decoded nodes i =
-    node-from (getD nodes (1 + 5 * i) 0) (getD nodes (1 + 5 * i + 1) 0) (getD nodes (1 + 5 * i + 2) 0) (getD nodes (1 + 5 * i + 3) 0) (getD nodes (1 + 5 * i + 4) 0)
-
-abbrev pub Five : Node → List ℕ → Type 0
-Five n xs = (go : ℕ → Cond) → node-of n go ≡ node (getD xs 0 0) (getD xs 1 0) (getD xs 2 0) (getD xs 3 0) (getD xs 4 0) go
-
-pub record Added (xs ys : List ℕ) (n : Node) (i : ℕ) : Type 0 where
-  pub place : i ≡ count xs
-  pub more : count ys ≡ i + 1
-  pub grown : Grown xs ys
-  pub stays : (j : ℕ) → j < i → cond-at ys j ≡ cond-at xs j
-  pub new : cond-at ys i ≡ node-of n (cond-at xs)
-
-abbrev pub behind : Node → ℕ → Bool
-behind Always i = true
-behind Never i = true
-behind (Equal a b) i = true
-behind (Not a) i = ltb a i
-behind (Both a b) i = ltb a i && ltb b i
-behind (Either a b) i = ltb a i && ltb b i
-
--- a comparison that names a gap above 63 stands nowhere: its numbers are read as never
-pub record Stands-as (nodes : List ℕ) (i : ℕ) (n : Node) : Type 0 where
-  pub stands : i < count nodes
-  pub after : behind n i ≡ true
-  pub same : decoded nodes i ≡ n
-
-pub record Found (nodes : List ℕ) (n : Node) (i : ℕ) : Type 0 where
-  pub store : store-fits nodes ≡ true
-  pub here : Stands-as nodes i n
-  pub lowest : (j : ℕ) → j < i → Stands-as nodes j n → ⊥
-
-abbrev pub Lacks : List ℕ → Node → Type 0
-Lacks nodes n = store-fits nodes ≡ true → (j : ℕ) → Stands-as nodes j n → ⊥

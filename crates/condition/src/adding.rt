@@ -1,11 +1,13 @@
 // Nodes added behind those that stand.
+ghost use mathlib.Core.Bool.{true};
 ghost use mathlib.Core.Path.{_≡_};
 ghost use Prim.Native.Nat.{ℕ, _+_, _*_, _<_, _≤_};
 ghost use lib.ListN.{length, getD};
 ghost use Rattle.std.specs.Results.{Cases};
 ghost use Rattle.std.specs.Vec.{made};
-ghost use Rattle.condition.specs.Store.{count, store-told, room-told, cond-at, Grown};
-ghost use Rattle.condition.specs.Shapes.{node-of, Five, Added};
+ghost use Rattle.condition.specs.Store.{count, store-fits, store-told, room-told, cond-at, Grown};
+ghost use Rattle.condition.specs.Shapes.{node-of};
+ghost use Rattle.condition.specs.Nodes.{five, Added};
 ghost use Rattle.condition.specs.Refusals.{outcome, first};
 use crate::Cell;
 use crate::Node;
@@ -17,6 +19,7 @@ pub fn add(nodes: &mut [u64], node: Node) -> u64
     requires { ⌜ 6 + 5 * count (now nodes) ≤ length (now nodes) ⌝ }
     ensures place { λ r. ⌜ r ≡ count (now (nodes .entry)) ⌝ }
     ensures count { λ r. ⌜ count (now (nodes .exit)) ≡ r + 1 ⌝ }
+    ensures numbers { λ r. ⌜ ((k : ℕ) → k < 5 → getD (now (nodes .exit)) (1 + 5 * r + k) 0 ≡ getD (five node) k 0) ⌝ }
     ensures grown { λ r. ⌜ Grown (now (nodes .entry)) (now (nodes .exit)) ⌝ }
     ensures stays { λ r. ⌜ ((j : ℕ) → j < r → cond-at (now (nodes .exit)) j ≡ cond-at (now (nodes .entry)) j) ⌝ }
     ensures new { λ r. ⌜ cond-at (now (nodes .exit)) r ≡ node-of node (cond-at (now (nodes .entry))) ⌝ }
@@ -32,6 +35,7 @@ pub fn append(nodes: &mut [u64], node: Node) -> Result<u64, Refusal>
     ensures refusal { λ r. ⌜ outcome r ≡ first (store-told (now (nodes .entry))) (room-told (now (nodes .entry)) 1) ⌝ }
     ensures kept { λ r. ⌜ Cases r (λ _. Unit {0}) (λ _. now (nodes .exit) ≡ now (nodes .entry)) ⌝ }
     ensures added { λ r. ⌜ made r (Added (now (nodes .entry)) (now (nodes .exit)) node) ⌝ }
+    ensures store { λ r. ⌜ made r (λ _. store-fits (now (nodes .exit)) ≡ true) ⌝ }
 {
     let room = room(nodes)?;
     if room == 0 {
@@ -43,7 +47,7 @@ pub fn append(nodes: &mut [u64], node: Node) -> Result<u64, Refusal>
 // Writes a node at the front of a part of the store, and nothing behind it.
 fn write(front: &mut [u64], node: Node)
     requires { ⌜ 5 ≤ length (now front) ⌝ }
-    ensures new { λ _. ⌜ Five node (now (front .exit)) ⌝ }
+    ensures new { λ _. ⌜ ((k : ℕ) → k < 5 → getD (now (front .exit)) k 0 ≡ getD (five node) k 0) ⌝ }
     ensures past { λ _. ⌜ ((k : ℕ) → 5 ≤ k → getD (now (front .exit)) k 0 ≡ getD (now (front .entry)) k 0) ⌝ }
 {
     let five = five(node);
@@ -56,7 +60,7 @@ fn write(front: &mut [u64], node: Node)
 
 // A node as five numbers.
 fn five(node: Node) -> [u64; 5]
-    ensures { λ r. ⌜ Five node r ⌝ }
+    ensures { λ r. ⌜ r ≡ five node ⌝ }
 {
     match node {
         Node::Always => [0, 0, 0, 0, 0],

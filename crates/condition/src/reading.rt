@@ -4,7 +4,8 @@ ghost use Prim.Native.Nat.{ℕ, _+_, _<_};
 ghost use lib.ListN.{length, getD};
 ghost use Rattle.condition.specs.Cond.{Cond};
 ghost use Rattle.condition.specs.Store.{cell-in, has-name, comparison, node};
-ghost use Rattle.condition.specs.Shapes.{cell-of, node-of, Named, compared, node-from};
+ghost use Rattle.condition.specs.Shapes.{cell-of, node-of, Named};
+ghost use Rattle.condition.specs.Nodes.{compared, node-from};
 use crate::Cell;
 use crate::Node;
 

@@ -4,7 +4,7 @@ use native.Mathlib.Omega.{arith}
 use lib.ListN.{length, getD, drop}
 use Rattle.std.proofs.shelf.Lists.{take-rest}
 use Rattle.condition.specs.Store.{count}
-use Rattle.condition.proofs.Added.{counted, grown, added}
+use Rattle.condition.proofs.Added.{counted, numbered, grown, added}
 use Rattle.condition.proofs.Growing.{grown-cond}
 use Rattle.condition.proofs.adding.add.Needs as need
 
@@ -17,6 +17,7 @@ returns c =
     record {
       place = refl;
       count = counted xs ys (c .pre) s;
+      numbers = numbered xs ys (c .pre) s (c .args .node) (c .write .ensures .new);
       grown = g;
       stays = grown-cond xs _ g;
       new = added xs ys (c .pre) s (c .args .node) (c .write .ensures .new);

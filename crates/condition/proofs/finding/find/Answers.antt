@@ -4,7 +4,7 @@ use native.Mathlib.Omega.{arith}
 use borrow.Author.Count.{below-more}
 use Rattle.std.proofs.shelf.Tests.{both-ways}
 use Rattle.condition.specs.Store.{count}
-use Rattle.condition.specs.Shapes.{Stands-as}
+use Rattle.condition.specs.Nodes.{Stands-as}
 use Rattle.condition.proofs.Decoding.{stands-means}
 use Rattle.condition.proofs.Standing.{fits-from}
 use Rattle.condition.proofs.finding.find.Needs as need

@@ -1,5 +1,5 @@
 use Prim.Native.Nat.{ℕ, _<_}
-use Rattle.condition.specs.Shapes.{Stands-as}
+use Rattle.condition.specs.Nodes.{Stands-as}
 use Rattle.condition.proofs.finding.find.Given as given
 
 abbrev pub Inv-loop-i : given.InvT-loop-i
