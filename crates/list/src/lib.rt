@@ -11,11 +11,13 @@ ghost use Rattle.list.specs.Lists.{All-at-once};
 use condition::Refusal;
 use condition::store_count;
 
+mod filled;
 mod fits;
 mod lines;
 mod named;
 mod shape;
 
+pub use filled::filled_lines;
 pub use fits::check_lists;
 pub use lines::line;
 pub use lines::line_cell;
