@@ -1,10 +1,11 @@
 // Nodes added behind those that stand.
+ghost use mathlib.Core.Bool.{true};
 ghost use mathlib.Core.Path.{_≡_};
 ghost use Prim.Native.Nat.{ℕ, _+_, _*_, _<_, _≤_};
 ghost use lib.ListN.{length, getD};
 ghost use Rattle.std.specs.Results.{Cases};
 ghost use Rattle.std.specs.Vec.{made};
-ghost use Rattle.condition.specs.Store.{count, store-told, room-told, cond-at, Grown};
+ghost use Rattle.condition.specs.Store.{count, store-fits, store-told, room-told, cond-at, Grown};
 ghost use Rattle.condition.specs.Shapes.{node-of, Five, Added};
 ghost use Rattle.condition.specs.Refusals.{outcome, first};
 use crate::Cell;
@@ -32,6 +33,7 @@ pub fn append(nodes: &mut [u64], node: Node) -> Result<u64, Refusal>
     ensures refusal { λ r. ⌜ outcome r ≡ first (store-told (now (nodes .entry))) (room-told (now (nodes .entry)) 1) ⌝ }
     ensures kept { λ r. ⌜ Cases r (λ _. Unit {0}) (λ _. now (nodes .exit) ≡ now (nodes .entry)) ⌝ }
     ensures added { λ r. ⌜ made r (Added (now (nodes .entry)) (now (nodes .exit)) node) ⌝ }
+    ensures store { λ r. ⌜ made r (λ _. store-fits (now (nodes .exit)) ≡ true) ⌝ }
 {
     let room = room(nodes)?;
     if room == 0 {
