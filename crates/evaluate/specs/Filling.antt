@@ -1,13 +1,14 @@
 -- Fillings, and when a condition holds under one.
 --
 --   Filling            a number for each gap
+--   put v k n          the filling v with the number n for the gap k
 --   fill-cell v a      the number of a cell under a filling
 --   holds v c          whether a condition holds under a filling
 --   Drawn ks ns v      v gives each of the gaps ks one of the numbers ns
 --   Below b v          v gives only numbers below b
 --   Fresh ms n fs      fs are n different numbers, none of which is one of ms
 use mathlib.Core.Path.{_≡_}
-use mathlib.Core.Bool.{Bool, true, false, _&&_, _||_, not}
+use mathlib.Core.Bool.{Bool, true, false, _&&_, _||_, not, cond as if}
 use mathlib.Core.List.{List}
 use Prim.Native.Nat.{ℕ, _<_}
 use lib.Dec.{eqb}
@@ -16,6 +17,9 @@ use Rattle.condition.specs.Cond.{Cell, known, gap, Cond, always, never, equal, 
 
 abbrev pub Filling : Type 0
 Filling = ℕ → ℕ
+
+abbrev pub put : Filling → ℕ → ℕ → Filling
+put v k n j = if (eqb j k) n (v j)
 
 abbrev pub fill-cell : Filling → Cell → ℕ
 fill-cell v (known n) = n

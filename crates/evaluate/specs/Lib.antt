@@ -1,3 +1,4 @@
 pub mod Filling
 pub mod Enough
 pub mod Shapes
+pub mod Values
