@@ -41,8 +41,8 @@ impl Filling {
     }
 
     // The number of a gap; a gap past the 64 has 0.
-    pub fn number(self, gap: u64) -> u64
-        ensures { λ r. ⌜ r ≡ numbers-of self gap ⌝ }
+    pub fn number(&self, gap: u64) -> u64
+        ensures { λ r. ⌜ r ≡ numbers-of (now (self .entry)) gap ⌝ }
     {
         if gap < 64 {
             self.numbers[gap as usize]
@@ -52,8 +52,8 @@ impl Filling {
     }
 
     // The number of a cell.
-    pub fn of(self, cell: Cell) -> u64
-        ensures { λ r. ⌜ r ≡ fill-cell (numbers-of self) (cell-of cell) ⌝ }
+    pub fn of(&self, cell: Cell) -> u64
+        ensures { λ r. ⌜ r ≡ fill-cell (numbers-of (now (self .entry))) (cell-of cell) ⌝ }
     {
         match cell {
             Cell::Number(n) => n,
