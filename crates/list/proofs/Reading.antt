@@ -8,16 +8,16 @@ use native.Mathlib.Nat.{suc-mul, zero-mul, add-zero}
 use native.Mathlib.Omega.{arith}
 use lib.Dec.{eqb, ltb}
 use lib.ListN.{length, getD, take, drop}
-use Rattle.std.proofs.shelf.Lists.{getD-drop, drop-drop, take-more, take-all, append-nil}
+use Rattle.std.proofs.shelf.Lists.{getD-drop, drop-drop, getD-past, getD-take, getD-append-left, take-more, take-all, append-nil}
 use Rattle.std.proofs.shelf.Tests.{ltb-true, and-parts}
 use Rattle.std.proofs.shelf.Ways.{tells}
 use Rattle.condition.specs.Cond.{Cell, known, gap}
 use Rattle.condition.specs.Store.{cell-in, cond-at, has-name}
 use Rattle.evaluate.specs.Filling.{Filling, fill-cell, holds}
+use Rattle.evaluate.specs.Values.{Worked-out}
 use Rattle.list.proofs.Filling.{fill-app, filled-app}
 use Rattle.list.specs.Lists.{Line, Row, fill-cells, filled}
-use Rattle.list.specs.Shapes.{Valued}
-use Rattle.list.specs.Layout.{line-size, cells-in, lines-in, cell-fits, cells-fit, lines-fit, lines-named}
+use Rattle.list.specs.Layout.{line-size, list-size, cells-in, lines-in, lists-in, all-in, cell-fits, cells-fit, lines-fit, lines-named}
 
 -- the line at the front of xs
 abbrev pub line-in : List ℕ → ℕ → List ℕ → Line
@@ -131,7 +131,7 @@ line-named c n w i at xs line l e h =
 
 -- a line whose node has the value true adds its row, and one whose node has false adds none
 module _ (v : Filling) (nodes : List ℕ) (n w i at : ℕ) (xs line : List ℕ) (bs : List Bool) (rows : List Row)
-    (inside : i < n) (is : line ≡ drop (at + i * line-size w) xs) (valued : Valued v nodes bs) (below : getD line 0 0 < length bs)
+    (inside : i < n) (is : line ≡ drop (at + i * line-size w) xs) (valued : Worked-out v nodes (length bs) bs) (below : getD line 0 0 < length bs)
     (sofar : rows ≡ filled v (take i (lines-in nodes n w (drop at xs)))) where
   pub filled-kept : (row : Row) → row ≡ fill-cells v (cells-in w (drop 1 line)) → getD bs (getD line 0 0) false ≡ true →
       rows ++ row ∷ [] ≡ filled v (take (i + 1) (lines-in nodes n w (drop at xs)))
@@ -143,3 +143,19 @@ module _ (v : Filling) (nodes : List ℕ) (n w i at : ℕ) (xs line : List ℕ) 
   filled-left t =
       let e : holds v (cond-at nodes (getD line 0 0)) ≡ false = sym (valued (getD line 0 0) below) ∙ t in
       sofar ∙ sym (filled-more v nodes n w i at xs line inside is ∙ rw e (append-nil (filled v (take i (lines-in nodes n w (drop at xs))))))
+
+pub length-lists : (nodes : List ℕ) (k : ℕ) (xs : List ℕ) → length (lists-in nodes k xs) ≡ k
+unfolding lists-in
+length-lists nodes zero xs = refl
+length-lists nodes (suc k) xs = ap suc (length-lists nodes k (drop (list-size xs) xs))
+
+-- past the last list there are no rows
+pub no-list : (v : Filling) (nodes lists : List ℕ) (t : ℕ) → getD lists 0 0 ≤ t → [] ≡ filled v (getD (all-in nodes lists) t [])
+unfolding filled
+no-list v nodes lists t l =
+    let h : length (all-in nodes lists) ≤ t = rw (length-lists nodes (getD lists 0 0) (drop 2 lists)) l in
+    rw (getD-past (all-in nodes lists) t [] h) refl
+
+-- what was written to the front of a vector is what it holds there
+pub refilled-at : (bs rest : List Bool) (n j : ℕ) → j < n → j < length bs → getD (take n (bs ++ rest)) j false ≡ getD bs j false
+refilled-at bs rest n j l k = getD-take n (bs ++ rest) j false l ∙ getD-append-left bs rest false j k

@@ -1,20 +1,17 @@
 -- What the code's types stand for.
 --
 --   rows-of v             the rows in a vector of vectors
---   Valued v nodes bs     bs are the values of as many nodes of a store under the filling v
 --   shape-of ss t         the shape of list t
 --   Shaped lists t s      s is the shape of list t, and says where its lines stand
 --   All-shaped lists ss   ss has the shape of each list
 use mathlib.Core.Path.{_≡_}
-use mathlib.Core.Bool.{Bool, true, false}
+use mathlib.Core.Bool.{true}
 use mathlib.Core.List.{List, [], map}
 use Prim.Native.Nat.{ℕ, _+_, _*_, _≤_, _<_}
 use lib.ListN.{length, getD, drop}
 use Rattle.std.specs.Of.Vec.{vec-items}
 use Rattle.std.specs.declared.option.Option.the-variants.{None}
 use Rattle.std.specs.declared.vec.Vec.{Vec}
-use Rattle.condition.specs.Store.{cond-at}
-use Rattle.evaluate.specs.Filling.{Filling, holds}
 use Rattle.list.specs.Layout.{line-size, lines-in, all-in, lines-fit, lines-named, named-below}
 use Rattle.list.specs.Layout as layout
 use Rattle.list.specs.Lists.{Row}
@@ -24,9 +21,6 @@ use Rattle.list.specs.declared.shape.Shapes.{Shapes}
 module _ {Z : Type 0} where
   abbrev pub rows-of : Vec (Vec ℕ Z) Z → List Row
   rows-of v = map vec-items (vec-items v)
-
-abbrev pub Valued : Filling → List ℕ → List Bool → Type 0
-Valued v nodes bs = (j : ℕ) → j < length bs → getD bs j false ≡ holds v (cond-at nodes j)
 
 abbrev pub no-shape : Shape
 no-shape = record { at = 0; lines = 0; width = 0 }

@@ -28,7 +28,7 @@ index-values-line-node c =
 
 pub loop-i-again : need.loop-i-again
 loop-i-again c nodes h =
-    let v = numbers-of (c .args .filling) in
+    let v = numbers-of (c .args .filling .now) in
     let sh = c .args .shape in
     let b : getD (c .line-line .result .now) 0 0 < length (c .args .values .now)
     = line-named (length (c .args .values .now)) (sh .lines) (sh .width) (c .loop-i .i) (sh .at) (c .args .lists .now) (c .line-line .result .now)
@@ -46,4 +46,4 @@ loop-i-again c nodes h =
     ]
 
 pub returns : need.returns
-returns c = λ nodes h. c .loop-i .inv nodes h ∙ filled-all (numbers-of (c .args .filling)) nodes (c .args .shape .lines) (c .args .shape .width) (c .loop-i .i) (drop (c .args .shape .at) (c .args .lists .now)) (omega arith)
+returns c = λ nodes h. c .loop-i .inv nodes h ∙ filled-all (numbers-of (c .args .filling .now)) nodes (c .args .shape .lines) (c .args .shape .width) (c .loop-i .i) (drop (c .args .shape .at) (c .args .lists .now)) (omega arith)

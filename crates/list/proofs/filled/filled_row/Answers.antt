@@ -16,7 +16,7 @@ loop-a-holds c = c .new-row .ensures .items
 pub loop-a-again : need.loop-a-again
 loop-a-again c =
     let pushed = chosen _ _ _ _ (c .push .ensures .items) (ap isOk (c .in-Continue-push .was tt)) in
-    cc (fill-more (numbers-of (c .args .filling)) (c .args .w) (c .loop-a .a) (c .args .line .now) (cell-of (c .line-cell .result)) (c .loop-a-test .taken) (c .line-cell .ensures))
+    cc (fill-more (numbers-of (c .args .filling .now)) (c .args .w) (c .loop-a .a) (c .args .line .now) (cell-of (c .line-cell .result)) (c .loop-a-test .taken) (c .line-cell .ensures))
 
 pub returns : need.returns
-returns c = c .loop-a .inv ∙ fill-all (numbers-of (c .args .filling)) (c .args .w) (c .loop-a .a) (drop 1 (c .args .line .now)) (omega arith)
+returns c = c .loop-a .inv ∙ fill-all (numbers-of (c .args .filling .now)) (c .args .w) (c .loop-a .a) (drop 1 (c .args .line .now)) (omega arith)
