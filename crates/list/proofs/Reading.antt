@@ -4,7 +4,7 @@ use mathlib.Core.Bool.{Bool, true, false, _&&_, _||_, cond as if}
 use mathlib.Core.List.{List, [], _∷_, _++_}
 use mathlib.Core.Logic.{_⊎_, inl, inr}
 use Prim.Native.Nat.{ℕ, zero, suc, _+_, _*_, _≤_, _<_}
-use native.Mathlib.Nat.{suc-mul, zero-mul, add-zero}
+use native.Mathlib.Nat.{suc-mul, zero-mul, add-zero, add-assoc}
 use native.Mathlib.Omega.{arith}
 use lib.Dec.{eqb, ltb}
 use lib.ListN.{length, getD, take, drop}
@@ -17,7 +17,10 @@ use Rattle.evaluate.specs.Filling.{Filling, fill-cell, holds}
 use Rattle.evaluate.specs.Values.{Worked-out}
 use Rattle.list.proofs.Filling.{fill-app, filled-app}
 use Rattle.list.specs.Lists.{Line, Row, fill-cells, filled}
-use Rattle.list.specs.Layout.{line-size, list-size, cells-in, lines-in, lists-in, all-in, cell-fits, cells-fit, lines-fit, lines-named}
+use Rattle.std.specs.declared.option.Option.the-variants.{None}
+use Rattle.list.specs.Shapes.{Shaped}
+use Rattle.list.specs.declared.shape.Shape.{Shape}
+use Rattle.list.specs.Layout.{line-size, list-size, named-below, cells-in, lines-in, lists-in, all-in, cell-fits, cells-fit, lines-fit, lines-named}
 
 -- the line at the front of xs
 abbrev pub line-in : List ℕ → ℕ → List ℕ → Line
@@ -159,3 +162,25 @@ no-list v nodes lists t l =
 -- what was written to the front of a vector is what it holds there
 pub refilled-at : (bs rest : List Bool) (n j : ℕ) → j < n → j < length bs → getD (take n (bs ++ rest)) j false ≡ getD bs j false
 refilled-at bs rest n j l k = getD-take n (bs ++ rest) j false l ∙ getD-append-left bs rest false j k
+
+-- a cell of a line that fits is a number or one of the 64 gaps
+pub line-cell-named : (n w i a at : ℕ) (xs line : List ℕ) → i < n → a < w → line ≡ drop (at + i * line-size w) xs → lines-fit n w (drop at xs) ≡ true →
+    has-name (cell-in (getD line (1 + 2 * a) 0) (getD line (2 + 2 * a) 0)) ≡ true
+line-cell-named n w i a at xs line l m e h =
+    let f : cells-fit w (drop 1 line) ≡ true
+    = rw (e, drop-drop 1 (at + i * line-size w) xs, add-assoc at (i * line-size w) 1, ← drop-drop (i * line-size w + 1) at xs) (lines-fit-at n w i (drop at xs) l h) in
+    let q : 1 + (2 * a + 1) ≡ 2 + 2 * a = omega arith in
+    fits-named (getD line (1 + 2 * a) 0) (getD line (2 + 2 * a) 0)
+    (rw (getD-drop 1 line (2 * a) 0, getD-drop 1 line (2 * a + 1) 0, q) at (cells-fit-at w a (drop 1 line) m f))
+
+-- the lines of list t by its shape: line i, its node that stands, and its cells
+module _ (lists : List ℕ) (t : ℕ) (s : Shape) (shaped : Shaped lists t s) (i : ℕ) (inside : i < s .lines) (line : List ℕ)
+    (is : line ≡ drop (s .at + i * line-size (s .width)) lists) where
+  pub shaped-line : (nodes : List ℕ) (d : Line) → getD (getD (all-in nodes lists) t []) i d ≡ line-in nodes (s .width) line
+  shaped-line nodes d = rw (shaped .says nodes) (line-of-part nodes (s .lines) (s .width) i (s .at) lists line d inside is)
+
+  pub shaped-node : (c : ℕ) → named-below lists c ≡ None → getD line 0 0 < c
+  shaped-node c e = line-named c (s .lines) (s .width) i (s .at) lists line inside is (shaped .named c e)
+
+  pub shaped-cell : (a : ℕ) → a < s .width → has-name (cell-in (getD line (1 + 2 * a) 0) (getD line (2 + 2 * a) 0)) ≡ true
+  shaped-cell a l = line-cell-named (s .lines) (s .width) i a (s .at) lists line inside l is (shaped .cells)

@@ -8,7 +8,8 @@
 --   shapes-in k xs             lines and columns of each
 --   list-fits xs, Fits xs      the list at the front of xs has at most 64 lines and 1 to 4 columns, is whole, and its cells are cells
 --   lists-told lists           number 1 with its place
---   named-told lists nodes     number 3 with its place
+--   named-below lists c        number 3 with its place, over a store of c nodes
+--   named-told lists nodes     the same over a store
 --   check-told lists nodes     the first of numbers 1, 2 and 3
 use mathlib.Core.Path.{_≡_}
 use mathlib.Core.Bool.{Bool, true, false, _&&_, _||_, cond as if}
