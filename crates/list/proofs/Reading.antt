@@ -1,20 +1,26 @@
 -- Lines and cells by their place.
 use mathlib.Core.Path.{_≡_, refl, sym, _∙_, ap}
-use mathlib.Core.Bool.{Bool, true, false, _&&_, _||_}
-use mathlib.Core.List.{List, []}
+use mathlib.Core.Bool.{Bool, true, false, _&&_, _||_, cond as if}
+use mathlib.Core.List.{List, [], _∷_, _++_}
 use mathlib.Core.Logic.{_⊎_, inl, inr}
 use Prim.Native.Nat.{ℕ, zero, suc, _+_, _*_, _≤_, _<_}
-use native.Mathlib.Nat.{suc-mul, zero-mul}
+use native.Mathlib.Nat.{suc-mul, zero-mul, add-zero, add-assoc}
 use native.Mathlib.Omega.{arith}
 use lib.Dec.{eqb, ltb}
-use lib.ListN.{length, getD, drop}
-use Rattle.std.proofs.shelf.Lists.{getD-drop, drop-drop}
-use Rattle.std.proofs.shelf.Tests.{and-parts}
+use lib.ListN.{length, getD, take, drop}
+use Rattle.std.proofs.shelf.Lists.{getD-drop, drop-drop, getD-past, getD-take, getD-append-left, take-more, take-all, append-nil}
+use Rattle.std.proofs.shelf.Tests.{ltb-true, and-parts}
 use Rattle.std.proofs.shelf.Ways.{tells}
 use Rattle.condition.specs.Cond.{Cell, known, gap}
 use Rattle.condition.specs.Store.{cell-in, cond-at, has-name}
-use Rattle.list.specs.Lists.{Line}
-use Rattle.list.specs.Layout.{line-size, cells-in, lines-in, cell-fits, cells-fit, lines-fit, lines-named}
+use Rattle.evaluate.specs.Filling.{Filling, fill-cell, holds}
+use Rattle.evaluate.specs.Values.{Worked-out}
+use Rattle.list.proofs.Filling.{fill-app, filled-app}
+use Rattle.list.specs.Lists.{Line, Row, fill-cells, filled}
+use Rattle.std.specs.declared.option.Option.the-variants.{None}
+use Rattle.list.specs.Shapes.{Shaped}
+use Rattle.list.specs.declared.shape.Shape.{Shape}
+use Rattle.list.specs.Layout.{line-size, list-size, named-below, cells-in, lines-in, lists-in, all-in, cell-fits, cells-fit, lines-fit, lines-named}
 
 -- the line at the front of xs
 abbrev pub line-in : List ℕ → ℕ → List ℕ → Line
@@ -92,3 +98,89 @@ pub fits-named : (t n : ℕ) → cell-fits t n ≡ true → has-name (cell-in t 
 fits-named zero n h = refl
 fits-named (suc zero) n h = grind (arith, tells)
 fits-named (suc (suc t)) n h = grind (arith, tells)
+
+-- one more cell of a line is filled
+pub fill-more : (v : Filling) (w a : ℕ) (xs : List ℕ) (d : Cell) → a < w → d ≡ cell-in (getD xs (1 + 2 * a) 0) (getD xs (2 + 2 * a) 0) →
+    fill-cells v (take (a + 1) (cells-in w (drop 1 xs))) ≡ fill-cells v (take a (cells-in w (drop 1 xs))) ++ fill-cell v d ∷ []
+unfolding fill-cells
+fill-more v w a xs d l e =
+    let h : a < length (cells-in w (drop 1 xs)) = rw (length-cells w (drop 1 xs)) l in
+    rw (take-more (cells-in w (drop 1 xs)) a d h, line-cell-at w a xs d l, ← e)
+    (fill-app v (take a (cells-in w (drop 1 xs))) (d ∷ []))
+
+pub fill-all : (v : Filling) (w a : ℕ) (xs : List ℕ) → w ≤ a → fill-cells v (take a (cells-in w xs)) ≡ fill-cells v (cells-in w xs)
+fill-all v w a xs l = let h : length (cells-in w xs) ≤ a = rw (length-cells w xs) l in rw (take-all a (cells-in w xs) h) refl
+
+-- one more line is filled
+pub filled-more : (v : Filling) (nodes : List ℕ) (n w i at : ℕ) (xs line : List ℕ) → i < n → line ≡ drop (at + i * line-size w) xs →
+    filled v (take (i + 1) (lines-in nodes n w (drop at xs)))
+    ≡ filled v (take i (lines-in nodes n w (drop at xs))) ++ if (holds v (cond-at nodes (getD line 0 0))) (fill-cells v (cells-in w (drop 1 line)) ∷ []) []
+unfolding filled
+filled-more v nodes n w i at xs line l e =
+    let ls = lines-in nodes n w (drop at xs) in
+    let h : i < length ls = rw (length-lines nodes n w (drop at xs)) l in
+    rw (take-more ls i (line-in nodes w line) h, line-of-part nodes n w i at xs line (line-in nodes w line) l e)
+    (filled-app v (take i ls) (line-in nodes w line ∷ []))
+
+pub filled-all : (v : Filling) (nodes : List ℕ) (n w i : ℕ) (xs : List ℕ) → n ≤ i → filled v (take i (lines-in nodes n w xs)) ≡ filled v (lines-in nodes n w xs)
+filled-all v nodes n w i xs l = let h : length (lines-in nodes n w xs) ≤ i = rw (length-lines nodes n w xs) l in rw (take-all i (lines-in nodes n w xs) h) refl
+
+-- a line names a node that stands
+pub line-named : (c n w i at : ℕ) (xs line : List ℕ) → i < n → line ≡ drop (at + i * line-size w) xs → lines-named c n w (drop at xs) ≡ true → getD line 0 0 < c
+line-named c n w i at xs line l e h =
+    let p : ltb (getD xs (at + i * line-size w) 0) c ≡ true = rw (getD-drop at xs (i * line-size w) 0) at (lines-named-at c n w i (drop at xs) l h) in
+    let q : getD line 0 0 ≡ getD xs (at + i * line-size w) 0 = rw (e, getD-drop (at + i * line-size w) xs 0 0, add-zero (at + i * line-size w)) refl in
+    omega (arith, ltb-true (getD xs (at + i * line-size w) 0) c p)
+
+-- a line whose node has the value true adds its row, and one whose node has false adds none
+module _ (v : Filling) (nodes : List ℕ) (n w i at : ℕ) (xs line : List ℕ) (bs : List Bool) (rows : List Row)
+    (inside : i < n) (is : line ≡ drop (at + i * line-size w) xs) (valued : Worked-out v nodes (length bs) bs) (below : getD line 0 0 < length bs)
+    (sofar : rows ≡ filled v (take i (lines-in nodes n w (drop at xs)))) where
+  pub filled-kept : (row : Row) → row ≡ fill-cells v (cells-in w (drop 1 line)) → getD bs (getD line 0 0) false ≡ true →
+      rows ++ row ∷ [] ≡ filled v (take (i + 1) (lines-in nodes n w (drop at xs)))
+  filled-kept row r t =
+      let e : holds v (cond-at nodes (getD line 0 0)) ≡ true = sym (valued (getD line 0 0) below) ∙ t in
+      rw (sofar, r) (sym (filled-more v nodes n w i at xs line inside is ∙ rw e refl))
+
+  pub filled-left : getD bs (getD line 0 0) false ≡ false → rows ≡ filled v (take (i + 1) (lines-in nodes n w (drop at xs)))
+  filled-left t =
+      let e : holds v (cond-at nodes (getD line 0 0)) ≡ false = sym (valued (getD line 0 0) below) ∙ t in
+      sofar ∙ sym (filled-more v nodes n w i at xs line inside is ∙ rw e (append-nil (filled v (take i (lines-in nodes n w (drop at xs))))))
+
+pub length-lists : (nodes : List ℕ) (k : ℕ) (xs : List ℕ) → length (lists-in nodes k xs) ≡ k
+unfolding lists-in
+length-lists nodes zero xs = refl
+length-lists nodes (suc k) xs = ap suc (length-lists nodes k (drop (list-size xs) xs))
+
+-- past the last list there are no rows
+pub no-list : (v : Filling) (nodes lists : List ℕ) (t : ℕ) → getD lists 0 0 ≤ t → [] ≡ filled v (getD (all-in nodes lists) t [])
+unfolding filled
+no-list v nodes lists t l =
+    let h : length (all-in nodes lists) ≤ t = rw (length-lists nodes (getD lists 0 0) (drop 2 lists)) l in
+    rw (getD-past (all-in nodes lists) t [] h) refl
+
+-- what was written to the front of a vector is what it holds there
+pub refilled-at : (bs rest : List Bool) (n j : ℕ) → j < n → j < length bs → getD (take n (bs ++ rest)) j false ≡ getD bs j false
+refilled-at bs rest n j l k = getD-take n (bs ++ rest) j false l ∙ getD-append-left bs rest false j k
+
+-- a cell of a line that fits is a number or one of the 64 gaps
+pub line-cell-named : (n w i a at : ℕ) (xs line : List ℕ) → i < n → a < w → line ≡ drop (at + i * line-size w) xs → lines-fit n w (drop at xs) ≡ true →
+    has-name (cell-in (getD line (1 + 2 * a) 0) (getD line (2 + 2 * a) 0)) ≡ true
+line-cell-named n w i a at xs line l m e h =
+    let f : cells-fit w (drop 1 line) ≡ true
+    = rw (e, drop-drop 1 (at + i * line-size w) xs, add-assoc at (i * line-size w) 1, ← drop-drop (i * line-size w + 1) at xs) (lines-fit-at n w i (drop at xs) l h) in
+    let q : 1 + (2 * a + 1) ≡ 2 + 2 * a = omega arith in
+    fits-named (getD line (1 + 2 * a) 0) (getD line (2 + 2 * a) 0)
+    (rw (getD-drop 1 line (2 * a) 0, getD-drop 1 line (2 * a + 1) 0, q) at (cells-fit-at w a (drop 1 line) m f))
+
+-- the lines of list t by its shape: line i, its node that stands, and its cells
+module _ (lists : List ℕ) (t : ℕ) (s : Shape) (shaped : Shaped lists t s) (i : ℕ) (inside : i < s .lines) (line : List ℕ)
+    (is : line ≡ drop (s .at + i * line-size (s .width)) lists) where
+  pub shaped-line : (nodes : List ℕ) (d : Line) → getD (getD (all-in nodes lists) t []) i d ≡ line-in nodes (s .width) line
+  shaped-line nodes d = rw (shaped .says nodes) (line-of-part nodes (s .lines) (s .width) i (s .at) lists line d inside is)
+
+  pub shaped-node : (c : ℕ) → named-below lists c ≡ None → getD line 0 0 < c
+  shaped-node c e = line-named c (s .lines) (s .width) i (s .at) lists line inside is (shaped .named c e)
+
+  pub shaped-cell : (a : ℕ) → a < s .width → has-name (cell-in (getD line (1 + 2 * a) 0) (getD line (2 + 2 * a) 0)) ≡ true
+  shaped-cell a l = line-cell-named (s .lines) (s .width) i a (s .at) lists line inside l is (shaped .cells)

@@ -8,7 +8,9 @@
 --   shapes-in k xs             lines and columns of each
 --   list-fits xs, Fits xs      the list at the front of xs has at most 64 lines and 1 to 4 columns, is whole, and its cells are cells
 --   lists-told lists           number 1 with its place
---   named-told lists nodes     number 3 with its place
+--   named-below lists c        number 3 with its place, over a store of c nodes
+--   named-told lists nodes     the same over a store
+--   check-told lists nodes     the first of numbers 1, 2 and 3
 use mathlib.Core.Path.{_≡_}
 use mathlib.Core.Bool.{Bool, true, false, _&&_, _||_, cond as if}
 use mathlib.Core.List.{List, [], _∷_}
@@ -17,7 +19,7 @@ use lib.Dec.{eqb, ltb, leb}
 use lib.ListN.{length, getD, drop}
 use Rattle.condition.specs.Cond.{Cell, Cond}
 use Rattle.condition.specs.Refusals.{Told, unless, first}
-use Rattle.condition.specs.Store.{cell-in, cond-at, count}
+use Rattle.condition.specs.Store.{cell-in, cond-at, count, store-told}
 use Rattle.list.specs.Lists.{Line}
 
 unfoldable pub cells-in : ℕ → List ℕ → List Cell
@@ -120,3 +122,7 @@ named-below lists c =
 
 abbrev pub named-told : (lists nodes : List ℕ) → Told
 named-told lists nodes = named-below lists (count nodes)
+
+-- what is told of lists and a store together: the first of 1, 2 and 3
+abbrev pub check-told : (lists nodes : List ℕ) → Told
+check-told lists nodes = first (lists-told lists) (first (store-told nodes) (named-told lists nodes))

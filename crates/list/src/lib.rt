@@ -4,18 +4,19 @@ ghost use mathlib.Core.Path.{_≡_};
 ghost use Prim.Native.Nat.{_≤_};
 ghost use lib.ListN.{getD};
 ghost use Rattle.std.specs.Vec.{made};
-ghost use Rattle.condition.specs.Refusals.{outcome, first};
-ghost use Rattle.condition.specs.Store.{store-told};
-ghost use Rattle.list.specs.Layout.{lists-told, named-told};
+ghost use Rattle.condition.specs.Refusals.{outcome};
+ghost use Rattle.list.specs.Layout.{check-told};
 ghost use Rattle.list.specs.Lists.{All-at-once};
 use condition::Refusal;
 use condition::store_count;
 
+mod filled;
 mod fits;
 mod lines;
 mod named;
 mod shape;
 
+pub use filled::rows;
 pub use fits::check_lists;
 pub use lines::line;
 pub use lines::line_cell;
@@ -26,7 +27,7 @@ pub use shape::Shapes;
 
 // How many lists there are; or why the lists are none, or else the store is none, or else a node they name does not stand.
 pub fn check(lists: &[u64], nodes: &[u64]) -> Result<u64, Refusal>
-    ensures refusal { λ r. ⌜ outcome r ≡ first (lists-told (now (lists .entry))) (first (store-told (now (nodes .entry))) (named-told (now (lists .entry)) (now (nodes .entry)))) ⌝ }
+    ensures refusal { λ r. ⌜ outcome r ≡ check-told (now (lists .entry)) (now (nodes .entry)) ⌝ }
     ensures value { λ r. ⌜ made r (λ n. (n ≡ getD (now (lists .entry)) 0 0) × (1 ≤ n) × (n ≤ 8)) ⌝ }
 {
     let fitting = check_lists(lists);

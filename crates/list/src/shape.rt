@@ -44,9 +44,9 @@ impl Shapes {
     }
 
     // The shape of list t, if there is such a list.
-    pub fn get(self, t: usize) -> Option<Shape>
-        requires { ⌜ self .count ≤ 8 ⌝ }
-        ensures { λ r. ⌜ BySome r (self .count ≤ t) (λ s. (t < self .count) × (s ≡ shape-of self t)) ⌝ }
+    pub fn get(&self, t: usize) -> Option<Shape>
+        requires { ⌜ now self .count ≤ 8 ⌝ }
+        ensures { λ r. ⌜ BySome r (now (self .entry) .count ≤ t) (λ s. (t < now (self .entry) .count) × (s ≡ shape-of (now (self .entry)) t)) ⌝ }
     {
         if t < self.count {
             Some(self.shapes[t])
