@@ -1,3 +1,4 @@
 pub mod Ask
 pub mod Reading
 pub mod Shapes
+pub mod Rows

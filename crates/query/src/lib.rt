@@ -1,6 +1,12 @@
 // Questions: signs in a slice of numbers, and what they ask of filled lists.
 ghost use Rattle.query.specs.Reading.{Few-lines};
 
+pub use asking::passes;
+pub use asking::same_row;
+pub use asking::stands;
+
+mod asking;
+
 // What a row may be tested for.
 #[derive(Clone, Copy)]
 pub enum Test {
