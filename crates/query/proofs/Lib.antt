@@ -1,3 +1,4 @@
 pub mod Placed
 pub mod Bounds
 pub mod Left
+pub mod Added

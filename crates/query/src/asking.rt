@@ -5,7 +5,12 @@ ghost use Rattle.list.specs.Lists.{same-row, stands};
 ghost use Rattle.query.specs.Ask.{passes};
 ghost use Rattle.query.specs.Rows.{rows-in};
 ghost use Rattle.query.specs.Shapes.{test-of};
+ghost use mathlib.Core.List.{[], _∷_, _++_};
+ghost use Rattle.std.specs.Vec.{made};
+ghost use Rattle.list.specs.Shapes.{rows-of};
 use crate::Test;
+use std::alloc::AllocError;
+use std::alloc::Global;
 
 // Whether two rows are equal.
 pub fn same_row(a: &[u64], b: &[u64]) -> bool
@@ -36,6 +41,43 @@ pub fn passes(test: Test, row: &[u64]) -> bool
         Test::Is(a, n) => column(row, a) == n,
         Test::IsNot(a, n) => column(row, a) != n,
     }
+}
+
+// A copy of the rows.
+pub fn copied(heap: Global, rows: &[Vec<u64>]) -> Result<Vec<Vec<u64>>, AllocError>
+    ensures { λ r. ⌜ made r (λ v. rows-of v ≡ rows-in (now (rows .entry))) ⌝ }
+{
+    let mut out = Vec::new(heap);
+    add_rows(heap, &mut out, rows)?;
+    Ok(out)
+}
+
+// The rows of both.
+pub fn both(heap: Global, rows: &[Vec<u64>], more: &[Vec<u64>]) -> Result<Vec<Vec<u64>>, AllocError>
+    ensures { λ r. ⌜ made r (λ v. rows-of v ≡ rows-in (now (rows .entry)) ++ rows-in (now (more .entry))) ⌝ }
+{
+    let mut out = copied(heap, rows)?;
+    add_rows(heap, &mut out, more)?;
+    Ok(out)
+}
+
+// Adds copies of the rows.
+fn add_rows(heap: Global, out: &mut Vec<Vec<u64>>, rows: &[Vec<u64>]) -> Result<(), AllocError>
+    ensures { λ r. ⌜ made r (λ _. rows-of (now (out .exit)) ≡ rows-of (now (out .entry)) ++ rows-in (now (rows .entry))) ⌝ }
+{
+    for row in rows {
+        add_row(heap, out, row.as_slice())?;
+    }
+    Ok(())
+}
+
+// Adds a copy of a row.
+fn add_row(heap: Global, out: &mut Vec<Vec<u64>>, row: &[u64]) -> Result<(), AllocError>
+    ensures { λ r. ⌜ made r (λ _. rows-of (now (out .exit)) ≡ rows-of (now (out .entry)) ++ now (row .entry) ∷ []) ⌝ }
+{
+    let copy = Vec::from_slice(heap, row)?;
+    out.push(copy)?;
+    Ok(())
 }
 
 // The number in a column; 0 past the end of the row.
