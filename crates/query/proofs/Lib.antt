@@ -2,3 +2,4 @@ pub mod Placed
 pub mod Bounds
 pub mod Left
 pub mod Added
+pub mod Firsts

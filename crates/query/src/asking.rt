@@ -2,10 +2,11 @@
 ghost use mathlib.Core.Path.{_≡_};
 ghost use lib.ListN.{getD};
 ghost use Rattle.list.specs.Lists.{same-row, stands};
-ghost use Rattle.query.specs.Ask.{passes};
+ghost use Rattle.query.specs.Ask.{passes, kept, at-columns, cut-to, beside, joined, less};
 ghost use Rattle.query.specs.Rows.{rows-in};
 ghost use Rattle.query.specs.Shapes.{test-of};
 ghost use mathlib.Core.List.{[], _∷_, _++_};
+ghost use Rattle.std.specs.Of.Vec.{vec-items};
 ghost use Rattle.std.specs.Vec.{made};
 ghost use Rattle.list.specs.Shapes.{rows-of};
 use crate::Test;
@@ -52,12 +53,63 @@ pub fn copied(heap: Global, rows: &[Vec<u64>]) -> Result<Vec<Vec<u64>>, AllocErr
     Ok(out)
 }
 
+// The rows that pass a test.
+pub fn kept(heap: Global, test: Test, rows: &[Vec<u64>]) -> Result<Vec<Vec<u64>>, AllocError>
+    ensures { λ r. ⌜ made r (λ v. rows-of v ≡ kept (test-of test) (rows-in (now (rows .entry)))) ⌝ }
+{
+    let mut out = Vec::new(heap);
+    for row in rows {
+        let numbers = row.as_slice();
+        if passes(test, numbers) {
+            add_row(heap, &mut out, numbers)?;
+        }
+    }
+    Ok(out)
+}
+
+// Of each row these columns.
+pub fn cut_to(heap: Global, columns: &[usize], rows: &[Vec<u64>]) -> Result<Vec<Vec<u64>>, AllocError>
+    ensures { λ r. ⌜ made r (λ v. rows-of v ≡ cut-to (now (columns .entry)) (rows-in (now (rows .entry)))) ⌝ }
+{
+    let mut out = Vec::new(heap);
+    for row in rows {
+        let cut = at_columns(heap, columns, row.as_slice())?;
+        out.push(cut)?;
+    }
+    Ok(out)
+}
+
+// Each of the rows followed by each of the others.
+pub fn joined(heap: Global, rows: &[Vec<u64>], others: &[Vec<u64>]) -> Result<Vec<Vec<u64>>, AllocError>
+    ensures { λ r. ⌜ made r (λ v. rows-of v ≡ joined (rows-in (now (rows .entry))) (rows-in (now (others .entry)))) ⌝ }
+{
+    let mut out = Vec::new(heap);
+    for row in rows {
+        add_beside(heap, &mut out, row.as_slice(), others)?;
+    }
+    Ok(out)
+}
+
+// The rows that are none of the others.
+pub fn less(heap: Global, rows: &[Vec<u64>], others: &[Vec<u64>]) -> Result<Vec<Vec<u64>>, AllocError>
+    ensures { λ r. ⌜ made r (λ v. rows-of v ≡ less (rows-in (now (rows .entry))) (rows-in (now (others .entry)))) ⌝ }
+{
+    let mut out = Vec::new(heap);
+    for row in rows {
+        let numbers = row.as_slice();
+        if !stands(numbers, others) {
+            add_row(heap, &mut out, numbers)?;
+        }
+    }
+    Ok(out)
+}
+
 // The rows of both.
-pub fn both(heap: Global, rows: &[Vec<u64>], more: &[Vec<u64>]) -> Result<Vec<Vec<u64>>, AllocError>
-    ensures { λ r. ⌜ made r (λ v. rows-of v ≡ rows-in (now (rows .entry)) ++ rows-in (now (more .entry))) ⌝ }
+pub fn both(heap: Global, rows: &[Vec<u64>], others: &[Vec<u64>]) -> Result<Vec<Vec<u64>>, AllocError>
+    ensures { λ r. ⌜ made r (λ v. rows-of v ≡ rows-in (now (rows .entry)) ++ rows-in (now (others .entry))) ⌝ }
 {
     let mut out = copied(heap, rows)?;
-    add_rows(heap, &mut out, more)?;
+    add_rows(heap, &mut out, others)?;
     Ok(out)
 }
 
@@ -78,6 +130,29 @@ fn add_row(heap: Global, out: &mut Vec<Vec<u64>>, row: &[u64]) -> Result<(), All
     let copy = Vec::from_slice(heap, row)?;
     out.push(copy)?;
     Ok(())
+}
+
+// Adds a row followed by each of the others.
+fn add_beside(heap: Global, out: &mut Vec<Vec<u64>>, row: &[u64], others: &[Vec<u64>]) -> Result<(), AllocError>
+    ensures { λ r. ⌜ made r (λ _. rows-of (now (out .exit)) ≡ rows-of (now (out .entry)) ++ beside (now (row .entry)) (rows-in (now (others .entry)))) ⌝ }
+{
+    for other in others {
+        let mut wide = Vec::from_slice(heap, row)?;
+        wide.extend_from_slice(other.as_slice())?;
+        out.push(wide)?;
+    }
+    Ok(())
+}
+
+// The numbers of a row in these columns.
+fn at_columns(heap: Global, columns: &[usize], row: &[u64]) -> Result<Vec<u64>, AllocError>
+    ensures { λ r. ⌜ made r (λ v. vec-items v ≡ at-columns (now (columns .entry)) (now (row .entry))) ⌝ }
+{
+    let mut out = Vec::new(heap);
+    for a in columns {
+        out.push(column(row, *a))?;
+    }
+    Ok(out)
 }
 
 // The number in a column; 0 past the end of the row.
