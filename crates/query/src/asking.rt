@@ -1,17 +1,76 @@
 // A question asked of filled lists: plain rows in, plain rows out.
 ghost use mathlib.Core.Path.{_≡_};
-ghost use lib.ListN.{getD};
+ghost use lib.ListN.{getD, take, drop};
 ghost use Rattle.list.specs.Lists.{same-row, stands};
-ghost use Rattle.query.specs.Ask.{passes, kept, at-columns, cut-to, beside, joined, less};
-ghost use Rattle.query.specs.Rows.{rows-in};
-ghost use Rattle.query.specs.Shapes.{test-of};
+ghost use Rattle.query.specs.Ask.{ask, passes, kept, at-columns, cut-to, beside, joined, less};
+ghost use Rattle.query.specs.Rows.{rows-in, tables-in};
+ghost use Rattle.query.specs.Shapes.{test-of, query-of};
 ghost use mathlib.Core.List.{[], _∷_, _++_};
 ghost use Rattle.std.specs.Of.Vec.{vec-items};
 ghost use Rattle.std.specs.Vec.{made};
 ghost use Rattle.list.specs.Shapes.{rows-of};
+use crate::Part;
+use crate::Sign;
 use crate::Test;
 use std::alloc::AllocError;
 use std::alloc::Global;
+
+// The rows that the question that begins with the first of the parts gives on the lists; at most `left` parts deep.
+pub fn ask_rows(heap: Global, parts: &[Part], left: u64, tables: &[Vec<Vec<u64>>]) -> Result<Vec<Vec<u64>>, AllocError>
+    ensures { λ r. ⌜ made r (λ v. rows-of v ≡ ask (query-of left (now (parts .entry))) (tables-in (now (tables .entry)))) ⌝ }
+{
+    if left == 0 || parts.len() == 0 {
+        return table(heap, tables, 0);
+    }
+    let part = parts[0];
+    match part.sign {
+        Sign::Rows(t) => table(heap, tables, t),
+        Sign::Keep(test) => {
+            let rows = ask_rows(heap, &parts[1..], left - 1, tables)?;
+            kept(heap, test, rows.as_slice())
+        }
+        Sign::Columns(columns) => {
+            let rows = ask_rows(heap, &parts[1..], left - 1, tables)?;
+            cut_to_first(heap, columns, part.width, rows.as_slice())
+        }
+        Sign::Join(second) => {
+            let rows = ask_rows(heap, &parts[1..], left - 1, tables)?;
+            let others = ask_rows(heap, behind(parts, second), left - 1, tables)?;
+            joined(heap, rows.as_slice(), others.as_slice())
+        }
+        Sign::Union(second) => {
+            let rows = ask_rows(heap, &parts[1..], left - 1, tables)?;
+            let others = ask_rows(heap, behind(parts, second), left - 1, tables)?;
+            both(heap, rows.as_slice(), others.as_slice())
+        }
+        Sign::Without(second) => {
+            let rows = ask_rows(heap, &parts[1..], left - 1, tables)?;
+            let others = ask_rows(heap, behind(parts, second), left - 1, tables)?;
+            less(heap, rows.as_slice(), others.as_slice())
+        }
+    }
+}
+
+// The parts from a place on; none past the end.
+fn behind(parts: &[Part], k: usize) -> &[Part]
+    ensures { λ r. ⌜ now r ≡ drop k (now (parts .entry)) ⌝ }
+{
+    &parts[k.min(parts.len())..]
+}
+
+// A copy of the rows of a list; none past the last list.
+pub fn table(heap: Global, tables: &[Vec<Vec<u64>>], t: usize) -> Result<Vec<Vec<u64>>, AllocError>
+    ensures { λ r. ⌜ made r (λ v. rows-of v ≡ getD (tables-in (now (tables .entry))) t []) ⌝ }
+{
+    if t < tables.len() { copied(heap, tables[t].as_slice()) } else { Ok(Vec::new(heap)) }
+}
+
+// Of each row as many of these columns as are wanted.
+fn cut_to_first(heap: Global, columns: [usize; 4], width: usize, rows: &[Vec<u64>]) -> Result<Vec<Vec<u64>>, AllocError>
+    ensures { λ r. ⌜ made r (λ v. rows-of v ≡ cut-to (take width columns) (rows-in (now (rows .entry)))) ⌝ }
+{
+    cut_to(heap, &columns[0..width.min(4)], rows)
+}
 
 // Whether two rows are equal.
 pub fn same_row(a: &[u64], b: &[u64]) -> bool
