@@ -10,12 +10,12 @@ pub loop-row-again : need.loop-row-again
 loop-row-again c =
     let m = rows-more (c .args .rows .now) (c .loop-row .row-index) (c .row-item .result) (c .as-slice-numbers .result .now) (omega arith) (c .row-item .is) (c .as-slice-numbers .ensures .value) in
     elim (c .if-passes .came) [
-      then-passes·in-Continue-add-row w ↦
-        let e = kept-pass _ _ _ m (test-of (c .args .test)) (w .if-passes .ensures tt) in
-        rw (w .out-is) (added-one _ _ _ _ _ _ (c .loop-row .inv) e (w .in-Continue-add-row .ensures tt))
-    | else-passes w ↦
-        let e = kept-fail _ _ _ m (test-of (c .args .test)) (w .if-passes .ensures tt) in
-        cc
+      | then-passes·in-Continue-add-row w ↦
+          let e = kept-pass _ _ _ m (test-of (c .args .test)) (w .if-passes .ensures tt) in
+          rw (w .out-is) (added-one _ _ _ _ _ _ (c .loop-row .inv) e (w .in-Continue-add-row .ensures tt))
+      | else-passes w ↦
+          let e = kept-fail _ _ _ m (test-of (c .args .test)) (w .if-passes .ensures tt) in
+          cc
     ]
 
 pub returns : need.returns

@@ -10,12 +10,12 @@ pub loop-row-again : need.loop-row-again
 loop-row-again c =
     let m = rows-more (c .args .rows .now) (c .loop-row .row-index) (c .row-item .result) (c .as-slice-numbers .result .now) (omega arith) (c .row-item .is) (c .as-slice-numbers .ensures .value) in
     elim (c .if-not-stands .came) [
-      then-not-stands·in-Continue-add-row w ↦
-        let e = less-new _ _ _ m (rows-in (c .args .others .now)) (w .if-not-stands .ensures tt) in
-        rw (w .out-is) (added-one _ _ _ _ _ _ (c .loop-row .inv) e (w .in-Continue-add-row .ensures tt))
-    | else-not-stands w ↦
-        let e = less-old _ _ _ m (rows-in (c .args .others .now)) (w .if-not-stands .ensures tt) in
-        cc
+      | then-not-stands·in-Continue-add-row w ↦
+          let e = less-new _ _ _ m (rows-in (c .args .others .now)) (w .if-not-stands .ensures tt) in
+          rw (w .out-is) (added-one _ _ _ _ _ _ (c .loop-row .inv) e (w .in-Continue-add-row .ensures tt))
+      | else-not-stands w ↦
+          let e = less-old _ _ _ m (rows-in (c .args .others .now)) (w .if-not-stands .ensures tt) in
+          cc
     ]
 
 pub returns : need.returns
