@@ -1,6 +1,8 @@
 -- Each sign by its lemma, with what the questions behind it gave.
 use mathlib.Core.Path.{sym}
+use mathlib.Core.List.{[]}
 use native.Mathlib.Omega.{arith}
+use lib.ListN.{getD}
 use Rattle.std.proofs.shelf.Lists.{take-rest}
 use Rattle.query.specs.Rows.{tables-in}
 use Rattle.query.proofs.Questions.{ask-nothing, ask-table, ask-keep, ask-columns, ask-join, ask-union, ask-without, sub-rows}
@@ -15,7 +17,7 @@ returns-then-left-eq0 t c =
 pub returns-in-Rows : need.returns-in-Rows
 returns-in-Rows t c =
     let e = ask-table (c .args .left) (c .args .parts .now) (tables-in (c .args .tables .now)) (omega arith) (c .in-Rows .t) (c .in-Rows .is) in
-    made-as (c .table-in-Rows .result) (c .table-in-Rows .ensures) (sym e)
+    made-as {xs = getD (tables-in (c .args .tables .now)) (c .in-Rows .t) []} (c .table-in-Rows .result) (c .table-in-Rows .ensures) (sym e)
 
 pub returns-in-Continue-rows : need.returns-in-Continue-rows
 returns-in-Continue-rows t c =
