@@ -6,3 +6,8 @@ pub mod Columns
 pub mod Steps
 pub mod Telling
 pub mod Shaping
+pub mod Left
+pub mod Added
+pub mod Firsts
+pub mod Questions
+pub mod Told

@@ -4,3 +4,4 @@ pub mod Shapes
 pub mod Parts
 pub mod Tokens
 pub mod Questions
+pub mod Rows
