@@ -4,47 +4,39 @@ use mathlib.Core.List.{List}
 use Prim.Native.Nat.{ℕ, _-_, _*_, _≤_, _<_}
 use native.Mathlib.Omega.{arith}
 use lib.ListN.{length}
-use Rattle.std.proofs.shelf.Tests.{eq-eqb, le-leb, lt-leb}
-use Rattle.std.specs.declared.option.Option.the-variants.{Some, None}
-use Rattle.condition.specs.Refusals.{Told, first}
-use Rattle.query.specs.Reading.{Sized, Read, read, sized, question-told, size-told, reads}
-use Rattle.query.specs.Parts.{Numbers, Parted, sized-of, Reads}
+use lib.Dec.{leb}
+use Rattle.std.proofs.shelf.Tests.{eq-eqb, leb-true}
+use Rattle.std.specs.declared.option.Option.the-variants.{None}
+use Rattle.condition.specs.Refusals.{first, unless}
+use Rattle.condition.proofs.Refusing.{first-none, unless-none}
+use Rattle.query.specs.Reading.{Sized, Read, read, sized, question-told, size-told, sizes-told, reads}
+use Rattle.query.specs.Parts.{Reads}
 use Rattle.query.specs.Shapes.{part-at}
 use Rattle.query.proofs.Parting.{first-part}
-use Rattle.query.specs.Questions.{Stands}
+use Rattle.query.specs.Questions.{Parses, Stands}
 use Rattle.query.specs.declared.Part.{Part}
 
-abbrev pub told-of : Read → List ℕ → Told
-told-of r signs = first (question-told r signs) (size-told (sized r))
+-- a question that took all signs
+pub whole-told : (ss : List (ℕ × ℕ)) (xs signs : List ℕ) (before after : List Part) (next : ℕ) (rest : List ℕ) → Reads 16 ss 0 xs before after next rest → 6 * next ≡ length signs →
+    None ≡ question-told (reads 16 ss 0 xs) signs
+whole-told ss xs signs before after next rest q whole = rw (q .is, eq-eqb (6 * next) (length signs) whole) refl
 
-module _ (r : Read) (signs : List ℕ) (s : Sized) (next : ℕ) (rest : List ℕ) (is : r ≡ read s next rest) (whole : 6 * next ≡ length signs) where
-  pub many-lines : 4096 < s .lines → Some (5, 4097) ≡ told-of r signs
-  many-lines l = rw (is, eq-eqb (6 * next) (length signs) whole, lt-leb (s .lines) 4096 l) refl
+pub parses : (ss : List (ℕ × ℕ)) (xs : List ℕ) (before after : List Part) (next : ℕ) (rest : List ℕ) → Reads 16 ss 0 xs before after next rest → length after ≡ 16 →
+    Parses ss (reads 16 ss 0 xs) after next
+parses ss xs before after next rest q long =
+    let e : sized (reads 16 ss 0 xs) ≡ q .question = ap sized (q .is) in
+    let n : next - 0 ≡ next = omega arith in
+    record { long = long; parts = rw n at (q .parts); sizes = q .sizes ∙ sym e; first = rw e (first-part 16 ss 0 xs before after next rest q) }
 
-  pub much-cost : s .lines ≤ 4096 → 65536 < s .cost → Some (5, 65537) ≡ told-of r signs
-  much-cost l c = rw (is, eq-eqb (6 * next) (length signs) whole, le-leb (s .lines) 4096 l, lt-leb (s .cost) 65536 c) refl
+-- a question that is not too large
+pub stands : (ss : List (ℕ × ℕ)) (r : Read) (ps : List Part) (n : ℕ) → Parses ss r ps n → None ≡ sizes-told (part-at ps 0 .lines) (part-at ps 0 .cost) → Stands ss r ps n
+stands ss r ps n p e =
+    let t : (unless (leb (part-at ps 0 .lines) 4096) 5 4097 ≡ None) × (unless (leb (part-at ps 0 .cost) 65536) 5 65537 ≡ None) =
+            first-none (unless (leb (part-at ps 0 .lines) 4096) 5 4097) (unless (leb (part-at ps 0 .cost) 65536) 5 65537) (sym e) in
+    record {
+        long = p .long; parts = p .parts; sizes = p .sizes; first = p .first;
+        lines = omega (arith, p .first .lines, leb-true (part-at ps 0 .lines) 4096 (unless-none (leb (part-at ps 0 .lines) 4096) 5 4097 (t .0)));
+        cost = omega (arith, p .first .cost, leb-true (part-at ps 0 .cost) 65536 (unless-none (leb (part-at ps 0 .cost) 65536) 5 65537 (t .1))) }
 
-  pub fine : s .lines ≤ 4096 → s .cost ≤ 65536 → None ≡ told-of r signs
-  fine l c = rw (is, eq-eqb (6 * next) (length signs) whole, le-leb (s .lines) 4096 l, le-leb (s .cost) 65536 c) refl
-
--- the same in the words of the code: from what was read into the parts
-module _ (ss : List (ℕ × ℕ)) (xs signs : List ℕ) (before after : List Part) (next : ℕ) (rest : List ℕ) (q : Reads 16 ss 0 xs before after next rest) (whole : 6 * next ≡ length signs) where
-  front : Numbers (part-at after 0) (q .question)
-  front = first-part 16 ss 0 xs before after next rest q
-
-  pub too-many : 4096 < part-at after 0 .lines → Some (5, 4097) ≡ told-of (reads 16 ss 0 xs) signs
-  too-many l = many-lines (reads 16 ss 0 xs) signs (q .question) next rest (q .is) whole (omega (arith, front .lines))
-
-  pub too-dear : part-at after 0 .lines ≤ 4096 → 65536 < part-at after 0 .cost → Some (5, 65537) ≡ told-of (reads 16 ss 0 xs) signs
-  too-dear l c = much-cost (reads 16 ss 0 xs) signs (q .question) next rest (q .is) whole (omega (arith, front .lines)) (omega (arith, front .cost))
-
-  pub told-nothing : part-at after 0 .lines ≤ 4096 → part-at after 0 .cost ≤ 65536 → None ≡ told-of (reads 16 ss 0 xs) signs
-  told-nothing l c = fine (reads 16 ss 0 xs) signs (q .question) next rest (q .is) whole (omega (arith, front .lines)) (omega (arith, front .cost))
-
-  pub stands : length after ≡ 16 → part-at after 0 .lines ≤ 4096 → part-at after 0 .cost ≤ 65536 → Stands ss (reads 16 ss 0 xs) after next
-  stands long l c =
-      let e : sized (reads 16 ss 0 xs) ≡ q .question = ap sized (q .is) in
-      let n : next - 0 ≡ next = omega arith in
-      record {
-          long = long; parts = rw n at (q .parts); sizes = q .sizes ∙ sym e;
-          lines = rw e (omega (arith, front .lines)); cost = rw e (omega (arith, front .cost)) }
+pub sizes-same : (ss : List (ℕ × ℕ)) (r : Read) (ps : List Part) (n : ℕ) → Parses ss r ps n → sizes-told (part-at ps 0 .lines) (part-at ps 0 .cost) ≡ size-told (sized r)
+sizes-same ss r ps n p = rw (p .first .lines, p .first .cost) refl

@@ -135,8 +135,11 @@ abbrev pub question-told : Read → (signs : List ℕ) → Told
 question-told (read s next rest) signs = unless (eqb (6 * next) (length signs)) 4 next
 question-told (bad sign) signs = Some (4, sign)
 
+abbrev pub sizes-told : (lines cost : ℕ) → Told
+sizes-told lines cost = first (unless (leb lines 4096) 5 4097) (unless (leb cost 65536) 5 65537)
+
 abbrev pub size-told : Sized → Told
-size-told s = first (unless (leb (s .lines) 4096) 5 4097) (unless (leb (s .cost) 65536) 5 65537)
+size-told s = sizes-told (s .lines) (s .cost)
 
 -- Sixteen signs hold at most eight lists, of at most 64 lines each: lines and cost of a question fit 64 bits by far.
 abbrev pub Few-lines : Type 0

@@ -6,9 +6,9 @@ ghost use Rattle.std.specs.Vec.{made};
 ghost use Rattle.condition.specs.Refusals.{outcome, first};
 ghost use Rattle.list.specs.Layout.{lists-told};
 ghost use Rattle.list.specs.Layout as layout;
-ghost use Rattle.query.specs.Reading.{asked, reads, sized, question-told, size-told};
+ghost use Rattle.query.specs.Reading.{asked, reads, sized, question-told, size-told, sizes-told};
 ghost use Rattle.query.specs.Shapes.{part-at, pairs-of, Few};
-ghost use Rattle.query.specs.Questions.{Stands};
+ghost use Rattle.query.specs.Questions.{Parses, Stands};
 use crate::Part;
 use crate::Sign;
 use crate::reading::read;
@@ -35,7 +35,18 @@ impl Question {
         }
     }
 
-    // How many lines its answer has, at most 4,096.
+    // The same, however large it is.
+    pub fn parse(lists: &[u64], signs: &[u64]) -> Result<Question, Refusal>
+        ensures refusal { λ r. ⌜ outcome r ≡ first (lists-told (now (lists .entry))) (question-told (asked (now (lists .entry)) (now (signs .entry))) (now (signs .entry))) ⌝ }
+        ensures value { λ r. ⌜ made r (λ q. Parses (layout.shapes (now (lists .entry))) (asked (now (lists .entry)) (now (signs .entry))) (q .parts) (q .signs)) ⌝ }
+    {
+        match check_lists(lists) {
+            Ok(_) => Question::parse_within(Shapes::of(lists), signs),
+            Err(refusal) => Err(refusal),
+        }
+    }
+
+    // How many lines its answer has.
     pub fn lines(&self) -> u64
         ensures { λ r. ⌜ r ≡ part-at (now (self .entry) .parts) 0 .lines ⌝ }
     {
@@ -49,7 +60,7 @@ impl Question {
         self.parts[0].width
     }
 
-    // How many nodes its answer's conditions may take, at most 65,536.
+    // How many nodes its answer's conditions may take.
     pub fn cost(&self) -> u64
         ensures { λ r. ⌜ r ≡ part-at (now (self .entry) .parts) 0 .cost ⌝ }
     {
@@ -69,6 +80,22 @@ impl Question {
         ensures refusal { λ r. ⌜ outcome r ≡ first (question-told (reads 16 (pairs-of shapes) 0 (take 96 (now (signs .entry)))) (now (signs .entry))) (size-told (sized (reads 16 (pairs-of shapes) 0 (take 96 (now (signs .entry)))))) ⌝ }
         ensures value { λ r. ⌜ made r (λ q. Stands (pairs-of shapes) (reads 16 (pairs-of shapes) 0 (take 96 (now (signs .entry)))) (q .parts) (q .signs)) ⌝ }
     {
+        let parsed = Question::parse_within(shapes, signs);
+        let Ok(question) = parsed else {
+            return parsed;
+        };
+        match question.check_size() {
+            Ok(_) => parsed,
+            Err(refusal) => Err(refusal),
+        }
+    }
+
+    // The question that the signs ask of lists of these shapes, however large; or the sign at which it can't be read.
+    fn parse_within(shapes: Shapes, signs: &[u64]) -> Result<Question, Refusal>
+        requires { ⌜ Few shapes ⌝ }
+        ensures refusal { λ r. ⌜ outcome r ≡ question-told (reads 16 (pairs-of shapes) 0 (take 96 (now (signs .entry)))) (now (signs .entry)) ⌝ }
+        ensures value { λ r. ⌜ made r (λ q. Parses (pairs-of shapes) (reads 16 (pairs-of shapes) 0 (take 96 (now (signs .entry)))) (q .parts) (q .signs)) ⌝ }
+    {
         let mut parts = [Part {
             sign: Sign::Rows(0),
             lines: 0,
@@ -82,13 +109,20 @@ impl Question {
         if 6 * next != signs.len() {
             return Err(Refusal::BadQuestion(next as u64));
         }
-        if parts[0].lines > 4096 {
+        Ok(Question { parts, signs: next })
+    }
+
+    // Refused where its answer would have more than 4,096 lines, or else cost more than 65,536.
+    pub fn check_size(&self) -> Result<(), Refusal>
+        ensures { λ r. ⌜ outcome r ≡ sizes-told (part-at (now (self .entry) .parts) 0 .lines) (part-at (now (self .entry) .parts) 0 .cost) ⌝ }
+    {
+        if self.parts[0].lines > 4096 {
             return Err(Refusal::TooManyLines);
         }
-        if parts[0].cost > 65536 {
+        if self.parts[0].cost > 65536 {
             return Err(Refusal::TooCostly);
         }
-        Ok(Question { parts, signs: next })
+        Ok(())
     }
 }
 
