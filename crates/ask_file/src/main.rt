@@ -1,14 +1,11 @@
 // Answers a file of questions on lists with gaps, read from standard input.
-ghost use Prim.Native.Nat.{_+_, _*_, _≤_};
-ghost use lib.ListN.{length};
 use bytes::Input;
 use bytes::read_lists;
 use bytes::read_nodes;
-use condition::CellDisplay;
-use condition::NodeDisplay;
 use condition::Refusal;
-use condition::cell_at;
-use condition::node_at;
+use condition::RefusalFromAllocError;
+use list::check;
+use query::Question;
 use std::alloc::Global;
 use std::error::AnyError;
 use std::io;
@@ -24,6 +21,13 @@ struct Book {
     nodes: Vec<u64>,
 }
 
+// A question of a file, and the rows that are asked about, one after the other.
+#[derive(Drop)]
+struct Asked {
+    question: Question,
+    rows: Vec<u64>,
+}
+
 fn main(rt: LibcRuntime) -> Result<(), AnyError> {
     rt.report(run(&rt))
 }
@@ -35,12 +39,7 @@ fn run(rt: &LibcRuntime) -> Result<(), AnyError> {
     stdin.read_to_end(&mut bytes)?;
     let mut input = Input::new(bytes.as_slice());
     match read_book(heap, &mut input) {
-        Ok(book) => {
-            show_lists(rt, book.lists.as_slice())?;
-            show_nodes(rt, book.nodes.as_slice())?;
-            let left = input.left();
-            println!(rt, "questions {left} bytes")?;
-        }
+        Ok(book) => answer_all(rt, heap, &mut input, book.lists.as_slice())?,
         Err(refusal) => refuse(rt, refusal)?,
     }
     Ok(())
@@ -53,74 +52,55 @@ fn read_book(heap: Global, input: &mut Input) -> Result<Book, Refusal> {
     };
     let lists = read_lists(heap, input, MOST_LINES)?;
     let nodes = read_nodes(heap, input, u64::from(count))?;
+    check(lists.as_slice(), nodes.as_slice())?;
     Ok(Book { lists, nodes })
+}
+
+// Each question to the end of the file, or to one that can't be read: what stands behind it can't be cut into rows.
+fn answer_all(rt: &LibcRuntime, heap: Global, input: &mut Input, lists: &[u64]) -> io::Result<()> {
+    for _ in 0..input.left() {
+        if input.left() == 0 {
+            return Ok(());
+        }
+        match read_question(heap, input, lists) {
+            Ok(asked) => answer(rt, &asked.question)?,
+            Err(refusal) => return refuse(rt, refusal),
+        }
+    }
+    Ok(())
+}
+
+// The next question and its rows.
+fn read_question(heap: Global, input: &mut Input, lists: &[u64]) -> Result<Asked, Refusal> {
+    let Some(count) = input.byte() else {
+        return Err(Refusal::BadQuestion(0));
+    };
+    let whole = (input.left() / 24) as u64;
+    let mut signs = Vec::new(heap);
+    input.numbers(6 * u64::from(count), &mut signs, Refusal::BadQuestion(whole))?;
+    let question = Question::parse(lists, signs.as_slice())?;
+    let width = question.width().max(1) as u64;
+    let count = input.byte().unwrap_or(0);
+    let cut = (input.left() / 4) as u64 % width;
+    let mut rows = Vec::new(heap);
+    input.numbers(u64::from(count) * width.min(8), &mut rows, Refusal::WrongWidth(cut))?;
+    Ok(Asked { question, rows })
+}
+
+// How large the answer is; or that it is too large.
+fn answer(rt: &LibcRuntime, question: &Question) -> io::Result<()> {
+    match question.check_size() {
+        Ok(_) => {
+            let lines = question.lines();
+            let width = question.width();
+            let cost = question.cost();
+            println!(rt, "lines {lines} width {width} cost {cost}")
+        }
+        Err(refusal) => refuse(rt, refusal),
+    }
 }
 
 fn refuse(rt: &LibcRuntime, refusal: Refusal) -> io::Result<()> {
     let (number, place) = refusal.told();
     println!(rt, "refused {number} {place}")
-}
-
-// What is known, and each list.
-fn show_lists(rt: &LibcRuntime, lists: &[u64]) -> io::Result<()> {
-    if lists.len() < 2 {
-        return Ok(());
-    }
-    let count = lists[0];
-    let known = lists[1];
-    println!(rt, "known {known}")?;
-    let mut rest = &lists[2..];
-    for i in 0..count {
-        println!(rt, "list {i}")?;
-        if rest.len() < 2 {
-            return Ok(());
-        }
-        let (shape, behind) = rest.split_at(2);
-        let size = shape[0].saturating_mul(shape[1].saturating_mul(2).saturating_add(1));
-        if size > behind.len() as u64 {
-            return Ok(());
-        }
-        let (lines, after) = behind.split_at(size as usize);
-        show_lines(rt, lines, shape[0], shape[1])?;
-        rest = after;
-    }
-    Ok(())
-}
-
-// The lines of a list.
-fn show_lines(rt: &LibcRuntime, lines: &[u64], count: u64, width: u64) -> io::Result<()> {
-    let size = width.saturating_mul(2).saturating_add(1);
-    let mut rest = lines;
-    for _ in 0..count {
-        if size > rest.len() as u64 {
-            return Ok(());
-        }
-        let (line, after) = rest.split_at(size as usize);
-        show_line(rt, line)?;
-        rest = after;
-    }
-    Ok(())
-}
-
-// The cells of a line, and the node of its condition.
-fn show_line(rt: &LibcRuntime, line: &[u64]) -> io::Result<()> {
-    for a in 0..line.len() / 2 {
-        if 2 * a + 2 < line.len() {
-            let cell = cell_at(line, 2 * a + 1);
-            print!(rt, "{cell} ")?;
-        }
-    }
-    let node = line.first().copied().unwrap_or(0);
-    println!(rt, "if {node}")
-}
-
-fn show_nodes(rt: &LibcRuntime, nodes: &[u64]) -> io::Result<()> {
-    println!(rt, "nodes")?;
-    for i in 0..nodes.len() / 5 {
-        if 5 * i + 5 < nodes.len() {
-            let node = node_at(nodes, 5 * i + 1);
-            println!(rt, "{i} {node}")?;
-        }
-    }
-    Ok(())
 }

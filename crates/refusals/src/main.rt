@@ -1,0 +1,203 @@
+// Bad input of every kind, and what the libraries tell of it: one line a case, with the number and the place.
+use condition::Cell;
+use condition::Node;
+use condition::Refusal;
+use condition::append;
+use condition::find;
+use condition::read_node;
+use condition::room;
+use condition::store_count;
+use condition::NodeDisplay;
+use evaluate::Filling;
+use evaluate::holds_at;
+use list::check;
+use list::check_lists;
+use query::Question;
+use std::alloc::Global;
+use std::io;
+
+const MOST: u64 = u64::MAX;
+
+// Baptisms (child, father) and marriages (man, woman); every line under node 0.
+const LISTS: [u64; 31] = [
+    2, 0, 3, 2, 0, 0, 1, 0, 10, 0, 0, 2, 1, 0, 0, 0, 3, 1, 1, 2, 2, 0, 0, 10, 0, 20, 0, 0, 11, 1, 2,
+];
+
+// Child and woman, where the father is the man.
+const MOTHERS: [u64; 30] = [
+    5, 2, 0, 3, 0, 0, 1, 1, 2, 0, 0, 0, 6, 0, 0, 0, 0, 0, 0, 0, 0, 0, 0, 0, 0, 1, 0, 0, 0, 0,
+];
+
+fn main(rt: LibcRuntime) -> io::Result<()> {
+    lists(&rt)?;
+    cut_lists(&rt)?;
+    stores(&rt)?;
+    nodes(&rt, rt.alloc())?;
+    named(&rt)?;
+    questions(&rt)?;
+    cut_questions(&rt)?;
+    long_questions(&rt)?;
+    large_question(&rt)
+}
+
+// A number that was answered, or what was refused.
+fn tell(rt: &LibcRuntime, case: &str, result: Result<u64, Refusal>) -> io::Result<()> {
+    match result {
+        Ok(n) => println!(rt, "{case}: {n}"),
+        Err(refusal) => {
+            let (number, place) = refusal.told();
+            println!(rt, "{case}: refused {number} {place}")
+        }
+    }
+}
+
+fn lists(rt: &LibcRuntime) -> io::Result<()> {
+    tell(rt, "lists", check_lists(&LISTS))?;
+    tell(rt, "no numbers", check_lists(&[]))?;
+    tell(rt, "no lists", check_lists(&[0, 0]))?;
+    tell(rt, "nine lists", check_lists(&[9, 0]))?;
+    tell(rt, "very many lists", check_lists(&[MOST, 0]))?;
+    tell(rt, "very many lines", check_lists(&[1, 0, MOST, 1, 0, 0, 1]))?;
+    tell(rt, "very many columns", check_lists(&[1, 0, 1, MOST, 0, 0, 1]))?;
+    tell(rt, "65 lines", check_lists(&[1, 0, 65, 1, 0, 0, 1]))?;
+    tell(rt, "no columns", check_lists(&[1, 0, 1, 0, 0, 0, 1]))?;
+    tell(rt, "five columns", check_lists(&[1, 0, 0, 5]))?;
+    tell(rt, "no lines", check_lists(&[1, 0, 0, 4]))?;
+    tell(rt, "gap 63", check_lists(&[1, 0, 1, 1, 0, 1, 63]))?;
+    tell(rt, "gap 64", check_lists(&[1, 0, 1, 1, 0, 1, 64]))?;
+    tell(rt, "tag 2", check_lists(&[1, 0, 1, 1, 0, 2, 0]))?;
+    tell(rt, "the second list at fault", check_lists(&[2, 0, 0, 1, 1, 1, 0, 2, 0]))
+}
+
+// The lists cut at every length.
+fn cut_lists(rt: &LibcRuntime) -> io::Result<()> {
+    print!(rt, "lists cut at each length:")?;
+    for n in 0..LISTS.len() {
+        if let Err(refusal) = check_lists(&LISTS[0..n]) {
+            let (number, place) = refusal.told();
+            print!(rt, " {number} {place},")?;
+        }
+    }
+    println!(rt, "")
+}
+
+fn stores(rt: &LibcRuntime) -> io::Result<()> {
+    tell(rt, "store", store_count(&[1, 0, 0, 0, 0, 0]))?;
+    tell(rt, "no store", store_count(&[]))?;
+    tell(rt, "store cut short", store_count(&[1, 0, 0, 0, 0]))?;
+    tell(rt, "very many nodes", store_count(&[MOST]))?;
+    tell(rt, "room of a full store", room(&[1, 0, 0, 0, 0, 0]))?;
+    tell(rt, "room of four numbers", room(&[0, 0, 0, 0]))?;
+    let mut full = [1, 0, 0, 0, 0, 0, 7];
+    tell(rt, "append to a full store", append(&mut full, Node::Never))?;
+    tell(rt, "its last number", Ok(full[6]))?;
+    let mut none = [MOST, 7];
+    tell(rt, "append to no store", append(&mut none, Node::Never))?;
+    tell(rt, "its last number", Ok(none[1]))
+}
+
+// What nodes say that name themselves, later ones, or gaps that are none.
+fn nodes(rt: &LibcRuntime, heap: Global) -> io::Result<()> {
+    let store = [5, 0, 0, 0, 0, 0, 4, 1, 1, 0, 0, 3, 4, 0, 0, 0, MOST, 0, 1, 0, 0, 2, 1, 64, 1, 64];
+    for i in 0..6u64 {
+        match read_node(&store, i) {
+            Some(node) => print!(rt, "node {i}: {node}, ")?,
+            None => print!(rt, "node {i}: none, ")?,
+        }
+        match holds_at(heap, &store, i, Filling::zeros()) {
+            Ok(true) => println!(rt, "holds")?,
+            Ok(false) => println!(rt, "does not hold")?,
+            Err(refusal) => tell(rt, "node", Err(refusal))?,
+        }
+    }
+    found(rt, "both 1 1", find(&store, Node::Both(1, 1)))?;
+    found(rt, "either 0 1", find(&store, Node::Either(0, 1)))?;
+    found(rt, "not 4", find(&store, Node::Not(4)))?;
+    found(rt, "g64 = g64", find(&store, Node::Equal(Cell::Gap(64), Cell::Gap(64))))?;
+    found(rt, "never", find(&store, Node::Never))
+}
+
+// Where a node was found.
+fn found(rt: &LibcRuntime, case: &str, place: Option<u64>) -> io::Result<()> {
+    match place {
+        Some(i) => println!(rt, "found {case}: {i}"),
+        None => println!(rt, "found {case}: none"),
+    }
+}
+
+fn named(rt: &LibcRuntime) -> io::Result<()> {
+    let store = [1, 0, 0, 0, 0, 0];
+    tell(rt, "lists and store", check(&LISTS, &store))?;
+    tell(rt, "a line's node does not stand", check(&[1, 0, 1, 1, 1, 0, 5], &store))?;
+    tell(rt, "in the second list", check(&[2, 1, 0, 1, 1, 1, MOST, 0, 5], &store))?;
+    tell(rt, "that of what is known", check(&[1, 1, 1, 1, 0, 0, 5], &store))?;
+    tell(rt, "no store either", check(&[1, 1, 1, 1, 1, 0, 5], &[1]))?;
+    tell(rt, "no lists either", check(&[1, 1, 1, 1, 1, 2, 5], &[1]))
+}
+
+// The lines of a question, or what was refused.
+fn lines(lists: &[u64], signs: &[u64]) -> Result<u64, Refusal> {
+    match Question::read(lists, signs) {
+        Ok(question) => Ok(question.lines()),
+        Err(refusal) => Err(refusal),
+    }
+}
+
+fn questions(rt: &LibcRuntime) -> io::Result<()> {
+    tell(rt, "question", lines(&LISTS, &MOTHERS))?;
+    tell(rt, "no signs", lines(&LISTS, &[]))?;
+    tell(rt, "kind 9", lines(&LISTS, &[9, 0, 0, 0, 0, 0]))?;
+    tell(rt, "a very high kind", lines(&LISTS, &[MOST, 0, 0, 0, 0, 0]))?;
+    tell(rt, "list 2", lines(&LISTS, &[0, 2, 0, 0, 0, 0]))?;
+    tell(rt, "a very high list", lines(&LISTS, &[0, MOST, 0, 0, 0, 0]))?;
+    tell(rt, "column 2 of two", lines(&LISTS, &[3, 2, 7, 0, 0, 0, 0, 0, 0, 0, 0, 0]))?;
+    tell(rt, "no columns", lines(&LISTS, &[5, 0, 0, 0, 0, 0, 0, 0, 0, 0, 0, 0]))?;
+    tell(rt, "very many columns", lines(&LISTS, &[5, MOST, 0, 0, 0, 0, 0, 0, 0, 0, 0, 0]))?;
+    tell(rt, "a bad list under a bad column", lines(&LISTS, &[5, 1, 9, 0, 0, 0, 0, 9, 0, 0, 0, 0]))?;
+    tell(rt, "lists of other widths", lines(&LISTS, &[7, 0, 0, 0, 0, 0, 0, 0, 0, 0, 0, 0, 5, 1, 0, 0, 0, 0, 0, 1, 0, 0, 0, 0]))?;
+    tell(rt, "a surplus sign", lines(&LISTS, &[0, 0, 0, 0, 0, 0, 0, 0, 0, 0, 0, 0]))?;
+    tell(rt, "a surplus number", lines(&LISTS, &[0, 0, 0, 0, 0, 0, 0]))?;
+    tell(rt, "of no lists", lines(&[], &MOTHERS))
+}
+
+// A question cut at every length.
+fn cut_questions(rt: &LibcRuntime) -> io::Result<()> {
+    print!(rt, "a question cut at each length:")?;
+    for n in 0..MOTHERS.len() {
+        if let Err(refusal) = Question::read(&LISTS, &MOTHERS[0..n]) {
+            let (number, place) = refusal.told();
+            print!(rt, " {number} {place},")?;
+        }
+    }
+    println!(rt, "")
+}
+
+// Sixteen signs, and seventeen.
+fn long_questions(rt: &LibcRuntime) -> io::Result<()> {
+    let mut signs = [0u64; 102];
+    for i in 0..16usize {
+        signs[6 * i] = 1;
+    }
+    tell(rt, "17 signs", lines(&LISTS, &signs))?;
+    tell(rt, "the last 16 of them", lines(&LISTS, &signs[6..]))?;
+    signs[90] = 0;
+    tell(rt, "16 signs and one more", lines(&LISTS, &signs))
+}
+
+// Eight lists of 64 lines joined: 2^48 lines.
+fn large_question(rt: &LibcRuntime) -> io::Result<()> {
+    let mut lists = [0u64; 196];
+    lists[0] = 1;
+    lists[2] = 64;
+    lists[3] = 1;
+    let mut signs = [0u64; 90];
+    for i in 0..7usize {
+        signs[6 * i] = 6;
+    }
+    tell(rt, "64 lines eight times joined", lines(&lists, &signs))?;
+    match Question::parse(&lists, &signs) {
+        Ok(question) => tell(rt, "which are", Ok(question.lines()))?,
+        Err(refusal) => tell(rt, "not read", Err(refusal))?,
+    }
+    tell(rt, "twice", lines(&lists, &signs[36..54]))
+}
