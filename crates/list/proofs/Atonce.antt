@@ -1,5 +1,5 @@
 -- Any few lists as one list with gaps: gap 0 says which, and a number past the last counts as the last.
-use mathlib.Core.Path.{_≡_, refl, sym, _∙_, ap}
+use mathlib.Core.Path.{_≡_, refl, _∙_, ap}
 use mathlib.Core.Bool.{Bool, true, false, _&&_, not, cond as if}
 use mathlib.Core.List.{List, [], _∷_, _++_}
 use Prim.Native.Nat.{ℕ, zero, suc, _+_, _<_}
@@ -8,7 +8,7 @@ use lib.Dec.{eqb}
 use lib.ListN.{length, getD}
 use Rattle.std.proofs.shelf.Tests.{eq-eqb, ne-eqb}
 use Rattle.condition.specs.Cond.{Cell, known, gap, Cond, always, equal, not-so, both}
-use Rattle.evaluate.specs.Filling.{Filling, fill-cell, holds}
+use Rattle.evaluate.specs.Filling.{Filling, holds}
 use Rattle.list.specs.Lists.{Line, Row, fill-cells, filled, stands, All-at-once}
 use Rattle.list.proofs.Filling.{filled-app}
 

@@ -1,16 +1,16 @@
 -- Laws of `filled` and `stands`.
-use mathlib.Core.Path.{_≡_, refl, sym, _∙_, ap}
-use mathlib.Core.Bool.{Bool, true, false, _&&_, _||_, cond as if}
+use mathlib.Core.Path.{_≡_, refl}
+use mathlib.Core.Bool.{true, false}
 use mathlib.Core.List.{List, [], _∷_, _++_}
 use native.Mathlib.Omega.{arith}
 use Prim.Native.Nat.{ℕ, zero, suc}
 use lib.Dec.{eqb}
 use lib.ListN.{getD}
-use Rattle.std.proofs.shelf.Tests.{both-ways, eqb-true, eq-eqb, and-parts, or-cases}
+use Rattle.std.proofs.shelf.Tests.{both-ways, eqb-true, and-parts}
 use Rattle.condition.specs.Cond.{Cell, known}
 use Rattle.condition.proofs.Lists.{eqb-self}
-use Rattle.evaluate.specs.Filling.{Filling, fill-cell, holds}
-use Rattle.list.specs.Lists.{Line, Row, fill-cells, filled, all-filled, same-row, stands}
+use Rattle.evaluate.specs.Filling.{Filling, fill-cell}
+use Rattle.list.specs.Lists.{Line, Row, fill-cells, filled, all-filled, same-row}
 
 pub fill-app : (v : Filling) (cs ds : List Cell) → fill-cells v (cs ++ ds) ≡ fill-cells v cs ++ fill-cells v ds
 unfolding fill-cells

@@ -1,6 +1,6 @@
 -- What is known of lists that are not refused.
-use mathlib.Core.Path.{_≡_, refl, sym, _∙_, ap}
-use mathlib.Core.Bool.{Bool, true, false, _&&_, cond as if}
+use mathlib.Core.Path.{_≡_, refl}
+use mathlib.Core.Bool.{Bool, true, false, cond as if}
 use mathlib.Core.List.{List}
 use Prim.Native.Nat.{ℕ, zero, suc, _+_, _-_, _≤_, _<_}
 use native.Mathlib.Omega.{arith}
@@ -9,9 +9,9 @@ use lib.ListN.{length, getD, drop, length-drop}
 use Rattle.std.proofs.shelf.Lists.{drop-drop}
 use Rattle.std.proofs.shelf.Tests.{ltb-true, leb-true, eqb-true, and-parts}
 use Rattle.std.specs.declared.option.Option.the-variants.{None}
-use Rattle.condition.specs.Refusals.{first, unless}
+use Rattle.condition.specs.Refusals.{unless}
 use Rattle.condition.proofs.Refusing.{first-none, unless-none}
-use Rattle.list.specs.Layout.{lines-at, columns-at, list-size, lines-fit, list-fits, Fits, passing, all-pass, lists-told, list-named, named-below, shapes-in}
+use Rattle.list.specs.Layout.{lines-at, columns-at, list-size, list-fits, Fits, passing, all-pass, lists-told, list-named, named-below, shapes-in}
 
 -- a list that fits has these bounds
 pub fits : (xs : List ℕ) → list-fits xs ≡ true → Fits xs

@@ -1,17 +1,16 @@
 -- Lines and cells by their place.
 use mathlib.Core.Path.{_≡_, refl, sym, _∙_, ap}
-use mathlib.Core.Bool.{Bool, true, false, _&&_, _||_, cond as if}
+use mathlib.Core.Bool.{Bool, true, false, cond as if}
 use mathlib.Core.List.{List, [], _∷_, _++_}
-use mathlib.Core.Logic.{_⊎_, inl, inr}
 use Prim.Native.Nat.{ℕ, zero, suc, _+_, _*_, _≤_, _<_}
 use native.Mathlib.Nat.{suc-mul, zero-mul, add-zero, add-assoc}
 use native.Mathlib.Omega.{arith}
-use lib.Dec.{eqb, ltb}
+use lib.Dec.{ltb}
 use lib.ListN.{length, getD, take, drop}
 use Rattle.std.proofs.shelf.Lists.{getD-drop, drop-drop, getD-past, getD-take, getD-append-left, take-more, take-all, append-nil}
 use Rattle.std.proofs.shelf.Tests.{ltb-true, and-parts}
 use Rattle.std.proofs.shelf.Ways.{tells}
-use Rattle.condition.specs.Cond.{Cell, known, gap}
+use Rattle.condition.specs.Cond.{Cell}
 use Rattle.condition.specs.Store.{cell-in, cond-at, has-name}
 use Rattle.evaluate.specs.Filling.{Filling, fill-cell, holds}
 use Rattle.evaluate.specs.Values.{Worked-out}

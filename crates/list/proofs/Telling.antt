@@ -1,13 +1,12 @@
 -- What is told of lists.
-use mathlib.Core.Path.{_≡_, refl, sym, _∙_, ap}
-use mathlib.Core.Bool.{Bool, true, false}
+use mathlib.Core.Path.{_≡_, refl, sym, _∙_}
 use mathlib.Core.List.{List, []}
-use Prim.Native.Nat.{ℕ, zero, suc, _+_, _≤_, _<_}
+use Prim.Native.Nat.{ℕ, zero, suc, _≤_, _<_}
 use native.Mathlib.Omega.{arith}
-use lib.Dec.{eqb, ltb, leb}
+use lib.Dec.{eqb, ltb}
 use lib.ListN.{length, getD, drop}
 use Rattle.std.proofs.shelf.Lists.{getD-past, drop-all}
-use Rattle.std.proofs.shelf.Tests.{le-leb, lt-leb, lt-ltb, le-ltb, eq-eqb, ne-eqb}
+use Rattle.std.proofs.shelf.Tests.{le-leb, lt-ltb, le-ltb, eq-eqb, ne-eqb}
 use Rattle.std.specs.declared.option.Option.the-variants.{Some, None}
 use Rattle.condition.specs.Refusals.{first, unless}
 use Rattle.list.specs.Layout.{list-fits, list-named, passing, all-pass, lists-told, named-below}
@@ -17,9 +16,6 @@ told-zero lists e = rw e refl
 
 pub told-empty : (lists : List ℕ) → length lists ≡ 0 → lists-told lists ≡ Some (1, 0)
 told-empty lists e = told-zero lists (getD-past lists 0 0 (omega arith))
-
-pub told-many : (lists : List ℕ) → 8 < getD lists 0 0 → lists-told lists ≡ Some (1, 8)
-told-many lists l = rw (le-leb 1 (getD lists 0 0) (omega arith), lt-leb (getD lists 0 0) 8 l) refl
 
 pub told-passing : (lists : List ℕ) (n : ℕ) → 1 ≤ getD lists 0 0 → getD lists 0 0 ≤ 8 → n ≡ passing list-fits (getD lists 0 0) (drop 2 lists) →
     lists-told lists ≡ unless (eqb n (getD lists 0 0)) 1 n

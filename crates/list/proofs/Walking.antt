@@ -1,17 +1,15 @@
 -- A walk over the lists, from one to the next: list t stands at a place.
-use mathlib.Core.Path.{_≡_, refl, sym, _∙_, ap}
-use mathlib.Core.Bool.{true}
+use mathlib.Core.Path.{_≡_, refl}
 use mathlib.Core.List.{List, []}
-use Prim.Native.Nat.{ℕ, zero, suc, _+_, _-_, _*_, _≤_, _<_}
+use Prim.Native.Nat.{ℕ, suc, _+_, _-_, _*_, _≤_, _<_}
 use native.Mathlib.Omega.{arith}
 use mathlib.Core.Logic.{_≢_}
 use borrow.Author.Count.{below-more}
 use lib.ListN.{length, getD, drop, set, length-drop}
 use Rattle.std.specs.declared.option.Option.the-variants.{None}
 use Rattle.std.proofs.shelf.Lists.{drop-drop, getD-set-same, getD-set-other}
-use Rattle.list.specs.Layout.{line-size, lines-at, columns-at, list-size, lines-in, lists-in, all-in, shapes-in, list-fits, Fits, list-named, passing, lists-told}
+use Rattle.list.specs.Layout.{line-size, lines-at, columns-at, list-size, lists-in, all-in, shapes-in, list-fits, Fits, list-named, passing, lists-told}
 use Rattle.list.specs.Layout as layout
-use Rattle.list.specs.Lists.{Line}
 use Rattle.list.specs.Shapes.{no-shape, Shaped}
 use Rattle.list.specs.declared.shape.Shape.{Shape}
 use Rattle.list.proofs.Stepping.{left-step}

@@ -12,7 +12,7 @@
 --   named-told lists nodes     the same over a store
 --   check-told lists nodes     the first of numbers 1, 2 and 3
 use mathlib.Core.Path.{_≡_}
-use mathlib.Core.Bool.{Bool, true, false, _&&_, _||_, cond as if}
+use mathlib.Core.Bool.{Bool, true, _&&_, _||_, cond as if}
 use mathlib.Core.List.{List, [], _∷_}
 use Prim.Native.Nat.{ℕ, zero, suc, _+_, _*_, _≤_}
 use lib.Dec.{eqb, ltb, leb}

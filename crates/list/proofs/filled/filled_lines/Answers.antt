@@ -1,12 +1,10 @@
-use mathlib.Core.Path.{_≡_, ap, sym, _∙_}
+use mathlib.Core.Path.{ap, _∙_}
 use mathlib.Core.List.{map}
 use Prim.Native.Nat.{_<_}
 use native.Mathlib.Omega.{arith}
 use lib.ListN.{length, getD, drop}
-use Rattle.std.proofs.Told.{chosen}
 use Rattle.std.proofs.shelf.Lists.{map-push}
 use Rattle.std.specs.Of.Vec.{vec-items}
-use Rattle.std.specs.Results.{isOk}
 use Rattle.evaluate.specs.Shapes.{numbers-of}
 use Rattle.list.specs.Lists.{filled}
 use Rattle.list.specs.Shapes.{rows-of}

@@ -1,7 +1,7 @@
 use mathlib.Core.Path.{sym}
 use native.Mathlib.Omega.{arith}
 use Rattle.std.proofs.shelf.Lists.{take-rest}
-use Rattle.list.proofs.Telling.{told-zero, told-empty, told-many, told-unfit, told-fit, told-short}
+use Rattle.list.proofs.Telling.{told-empty, told-unfit, told-fit, told-short}
 use Rattle.list.proofs.fits.check_lists.Needs as need
 
 pub returns-then-lists-eq0 : need.returns-then-lists-eq0
