@@ -77,13 +77,21 @@ fn read_question(heap: Global, input: &mut Input, lists: &[u64]) -> Result<Asked
     };
     let whole = (input.left() / 24) as u64;
     let mut signs = Vec::new(heap);
-    input.numbers(6 * u64::from(count), &mut signs, Refusal::BadQuestion(whole))?;
+    input.numbers(
+        6 * u64::from(count),
+        &mut signs,
+        Refusal::BadQuestion(whole),
+    )?;
     let question = Question::parse(lists, signs.as_slice())?;
     let width = question.width().max(1) as u64;
     let count = input.byte().unwrap_or(0);
     let cut = (input.left() / 4) as u64 % width;
     let mut rows = Vec::new(heap);
-    input.numbers(u64::from(count) * width.min(8), &mut rows, Refusal::WrongWidth(cut))?;
+    input.numbers(
+        u64::from(count) * width.min(8),
+        &mut rows,
+        Refusal::WrongWidth(cut),
+    )?;
     Ok(Asked { question, rows })
 }
 

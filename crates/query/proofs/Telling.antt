@@ -32,11 +32,15 @@ parses ss xs before after next rest q long =
 pub stands : (ss : List (ℕ × ℕ)) (r : Read) (ps : List Part) (n : ℕ) → Parses ss r ps n → None ≡ sizes-told (part-at ps 0 .lines) (part-at ps 0 .cost) → Stands ss r ps n
 stands ss r ps n p e =
     let t : (unless (leb (part-at ps 0 .lines) 4096) 5 4097 ≡ None) × (unless (leb (part-at ps 0 .cost) 65536) 5 65537 ≡ None) =
-            first-none (unless (leb (part-at ps 0 .lines) 4096) 5 4097) (unless (leb (part-at ps 0 .cost) 65536) 5 65537) (sym e) in
+    first-none (unless (leb (part-at ps 0 .lines) 4096) 5 4097) (unless (leb (part-at ps 0 .cost) 65536) 5 65537) (sym e) in
     record {
-        long = p .long; parts = p .parts; sizes = p .sizes; first = p .first;
-        lines = omega (arith, p .first .lines, leb-true (part-at ps 0 .lines) 4096 (unless-none (leb (part-at ps 0 .lines) 4096) 5 4097 (t .0)));
-        cost = omega (arith, p .first .cost, leb-true (part-at ps 0 .cost) 65536 (unless-none (leb (part-at ps 0 .cost) 65536) 5 65537 (t .1))) }
+      long = p .long;
+      parts = p .parts;
+      sizes = p .sizes;
+      first = p .first;
+      lines = omega (arith, p .first .lines, leb-true (part-at ps 0 .lines) 4096 (unless-none (leb (part-at ps 0 .lines) 4096) 5 4097 (t .0)));
+      cost = omega (arith, p .first .cost, leb-true (part-at ps 0 .cost) 65536 (unless-none (leb (part-at ps 0 .cost) 65536) 5 65537 (t .1)));
+    }
 
 pub sizes-same : (ss : List (ℕ × ℕ)) (r : Read) (ps : List Part) (n : ℕ) → Parses ss r ps n → sizes-told (part-at ps 0 .lines) (part-at ps 0 .cost) ≡ size-told (sized r)
 sizes-same ss r ps n p = rw (p .first .lines, p .first .cost) refl

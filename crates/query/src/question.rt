@@ -116,10 +116,10 @@ impl Question {
     pub fn check_size(&self) -> Result<(), Refusal>
         ensures { λ r. ⌜ outcome r ≡ sizes-told (part-at (now (self .entry) .parts) 0 .lines) (part-at (now (self .entry) .parts) 0 .cost) ⌝ }
     {
-        if self.parts[0].lines > 4096 {
+        if self.lines() > 4096 {
             return Err(Refusal::TooManyLines);
         }
-        if self.parts[0].cost > 65536 {
+        if self.cost() > 65536 {
             return Err(Refusal::TooCostly);
         }
         Ok(())

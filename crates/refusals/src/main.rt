@@ -1,13 +1,13 @@
 // Bad input of every kind, and what the libraries tell of it: one line a case, with the number and the place.
 use condition::Cell;
 use condition::Node;
+use condition::NodeDisplay;
 use condition::Refusal;
 use condition::append;
 use condition::find;
 use condition::read_node;
 use condition::room;
 use condition::store_count;
-use condition::NodeDisplay;
 use evaluate::Filling;
 use evaluate::holds_at;
 use list::check;
@@ -20,12 +20,71 @@ const MOST: u64 = u64::MAX;
 
 // Baptisms (child, father) and marriages (man, woman); every line under node 0.
 const LISTS: [u64; 31] = [
-    2, 0, 3, 2, 0, 0, 1, 0, 10, 0, 0, 2, 1, 0, 0, 0, 3, 1, 1, 2, 2, 0, 0, 10, 0, 20, 0, 0, 11, 1, 2,
+    2,
+    0,
+    3,
+    2,
+    0,
+    0,
+    1,
+    0,
+    10,
+    0,
+    0,
+    2,
+    1,
+    0,
+    0,
+    0,
+    3,
+    1,
+    1,
+    2,
+    2,
+    0,
+    0,
+    10,
+    0,
+    20,
+    0,
+    0,
+    11,
+    1,
+    2,
 ];
 
 // Child and woman, where the father is the man.
 const MOTHERS: [u64; 30] = [
-    5, 2, 0, 3, 0, 0, 1, 1, 2, 0, 0, 0, 6, 0, 0, 0, 0, 0, 0, 0, 0, 0, 0, 0, 0, 1, 0, 0, 0, 0,
+    5,
+    2,
+    0,
+    3,
+    0,
+    0,
+    1,
+    1,
+    2,
+    0,
+    0,
+    0,
+    6,
+    0,
+    0,
+    0,
+    0,
+    0,
+    0,
+    0,
+    0,
+    0,
+    0,
+    0,
+    0,
+    1,
+    0,
+    0,
+    0,
+    0,
 ];
 
 fn main(rt: LibcRuntime) -> io::Result<()> {
@@ -57,8 +116,16 @@ fn lists(rt: &LibcRuntime) -> io::Result<()> {
     tell(rt, "no lists", check_lists(&[0, 0]))?;
     tell(rt, "nine lists", check_lists(&[9, 0]))?;
     tell(rt, "very many lists", check_lists(&[MOST, 0]))?;
-    tell(rt, "very many lines", check_lists(&[1, 0, MOST, 1, 0, 0, 1]))?;
-    tell(rt, "very many columns", check_lists(&[1, 0, 1, MOST, 0, 0, 1]))?;
+    tell(
+        rt,
+        "very many lines",
+        check_lists(&[1, 0, MOST, 1, 0, 0, 1]),
+    )?;
+    tell(
+        rt,
+        "very many columns",
+        check_lists(&[1, 0, 1, MOST, 0, 0, 1]),
+    )?;
     tell(rt, "65 lines", check_lists(&[1, 0, 65, 1, 0, 0, 1]))?;
     tell(rt, "no columns", check_lists(&[1, 0, 1, 0, 0, 0, 1]))?;
     tell(rt, "five columns", check_lists(&[1, 0, 0, 5]))?;
@@ -66,7 +133,11 @@ fn lists(rt: &LibcRuntime) -> io::Result<()> {
     tell(rt, "gap 63", check_lists(&[1, 0, 1, 1, 0, 1, 63]))?;
     tell(rt, "gap 64", check_lists(&[1, 0, 1, 1, 0, 1, 64]))?;
     tell(rt, "tag 2", check_lists(&[1, 0, 1, 1, 0, 2, 0]))?;
-    tell(rt, "the second list at fault", check_lists(&[2, 0, 0, 1, 1, 1, 0, 2, 0]))
+    tell(
+        rt,
+        "the second list at fault",
+        check_lists(&[2, 0, 0, 1, 1, 1, 0, 2, 0]),
+    )
 }
 
 // The lists cut at every length.
@@ -98,7 +169,34 @@ fn stores(rt: &LibcRuntime) -> io::Result<()> {
 
 // What nodes say that name themselves, later ones, or gaps that are none.
 fn nodes(rt: &LibcRuntime, heap: Global) -> io::Result<()> {
-    let store = [5, 0, 0, 0, 0, 0, 4, 1, 1, 0, 0, 3, 4, 0, 0, 0, MOST, 0, 1, 0, 0, 2, 1, 64, 1, 64];
+    let store = [
+        5,
+        0,
+        0,
+        0,
+        0,
+        0,
+        4,
+        1,
+        1,
+        0,
+        0,
+        3,
+        4,
+        0,
+        0,
+        0,
+        MOST,
+        0,
+        1,
+        0,
+        0,
+        2,
+        1,
+        64,
+        1,
+        64,
+    ];
     for i in 0..6u64 {
         match read_node(&store, i) {
             Some(node) => print!(rt, "node {i}: {node}, ")?,
@@ -113,7 +211,11 @@ fn nodes(rt: &LibcRuntime, heap: Global) -> io::Result<()> {
     found(rt, "both 1 1", find(&store, Node::Both(1, 1)))?;
     found(rt, "either 0 1", find(&store, Node::Either(0, 1)))?;
     found(rt, "not 4", find(&store, Node::Not(4)))?;
-    found(rt, "g64 = g64", find(&store, Node::Equal(Cell::Gap(64), Cell::Gap(64))))?;
+    found(
+        rt,
+        "g64 = g64",
+        find(&store, Node::Equal(Cell::Gap(64), Cell::Gap(64))),
+    )?;
     found(rt, "never", find(&store, Node::Never))
 }
 
@@ -128,9 +230,21 @@ fn found(rt: &LibcRuntime, case: &str, place: Option<u64>) -> io::Result<()> {
 fn named(rt: &LibcRuntime) -> io::Result<()> {
     let store = [1, 0, 0, 0, 0, 0];
     tell(rt, "lists and store", check(&LISTS, &store))?;
-    tell(rt, "a line's node does not stand", check(&[1, 0, 1, 1, 1, 0, 5], &store))?;
-    tell(rt, "in the second list", check(&[2, 1, 0, 1, 1, 1, MOST, 0, 5], &store))?;
-    tell(rt, "that of what is known", check(&[1, 1, 1, 1, 0, 0, 5], &store))?;
+    tell(
+        rt,
+        "a line's node does not stand",
+        check(&[1, 0, 1, 1, 1, 0, 5], &store),
+    )?;
+    tell(
+        rt,
+        "in the second list",
+        check(&[2, 1, 0, 1, 1, 1, MOST, 0, 5], &store),
+    )?;
+    tell(
+        rt,
+        "that of what is known",
+        check(&[1, 1, 1, 1, 0, 0, 5], &store),
+    )?;
     tell(rt, "no store either", check(&[1, 1, 1, 1, 1, 0, 5], &[1]))?;
     tell(rt, "no lists either", check(&[1, 1, 1, 1, 1, 2, 5], &[1]))
 }
@@ -147,16 +261,80 @@ fn questions(rt: &LibcRuntime) -> io::Result<()> {
     tell(rt, "question", lines(&LISTS, &MOTHERS))?;
     tell(rt, "no signs", lines(&LISTS, &[]))?;
     tell(rt, "kind 9", lines(&LISTS, &[9, 0, 0, 0, 0, 0]))?;
-    tell(rt, "a very high kind", lines(&LISTS, &[MOST, 0, 0, 0, 0, 0]))?;
+    tell(
+        rt,
+        "a very high kind",
+        lines(&LISTS, &[MOST, 0, 0, 0, 0, 0]),
+    )?;
     tell(rt, "list 2", lines(&LISTS, &[0, 2, 0, 0, 0, 0]))?;
-    tell(rt, "a very high list", lines(&LISTS, &[0, MOST, 0, 0, 0, 0]))?;
-    tell(rt, "column 2 of two", lines(&LISTS, &[3, 2, 7, 0, 0, 0, 0, 0, 0, 0, 0, 0]))?;
-    tell(rt, "no columns", lines(&LISTS, &[5, 0, 0, 0, 0, 0, 0, 0, 0, 0, 0, 0]))?;
-    tell(rt, "very many columns", lines(&LISTS, &[5, MOST, 0, 0, 0, 0, 0, 0, 0, 0, 0, 0]))?;
-    tell(rt, "a bad list under a bad column", lines(&LISTS, &[5, 1, 9, 0, 0, 0, 0, 9, 0, 0, 0, 0]))?;
-    tell(rt, "lists of other widths", lines(&LISTS, &[7, 0, 0, 0, 0, 0, 0, 0, 0, 0, 0, 0, 5, 1, 0, 0, 0, 0, 0, 1, 0, 0, 0, 0]))?;
-    tell(rt, "a surplus sign", lines(&LISTS, &[0, 0, 0, 0, 0, 0, 0, 0, 0, 0, 0, 0]))?;
-    tell(rt, "a surplus number", lines(&LISTS, &[0, 0, 0, 0, 0, 0, 0]))?;
+    tell(
+        rt,
+        "a very high list",
+        lines(&LISTS, &[0, MOST, 0, 0, 0, 0]),
+    )?;
+    tell(
+        rt,
+        "column 2 of two",
+        lines(&LISTS, &[3, 2, 7, 0, 0, 0, 0, 0, 0, 0, 0, 0]),
+    )?;
+    tell(
+        rt,
+        "no columns",
+        lines(&LISTS, &[5, 0, 0, 0, 0, 0, 0, 0, 0, 0, 0, 0]),
+    )?;
+    tell(
+        rt,
+        "very many columns",
+        lines(&LISTS, &[5, MOST, 0, 0, 0, 0, 0, 0, 0, 0, 0, 0]),
+    )?;
+    tell(
+        rt,
+        "a bad list under a bad column",
+        lines(&LISTS, &[5, 1, 9, 0, 0, 0, 0, 9, 0, 0, 0, 0]),
+    )?;
+    tell(
+        rt,
+        "lists of other widths",
+        lines(
+            &LISTS,
+            &[
+                7,
+                0,
+                0,
+                0,
+                0,
+                0,
+                0,
+                0,
+                0,
+                0,
+                0,
+                0,
+                5,
+                1,
+                0,
+                0,
+                0,
+                0,
+                0,
+                1,
+                0,
+                0,
+                0,
+                0,
+            ],
+        ),
+    )?;
+    tell(
+        rt,
+        "a surplus sign",
+        lines(&LISTS, &[0, 0, 0, 0, 0, 0, 0, 0, 0, 0, 0, 0]),
+    )?;
+    tell(
+        rt,
+        "a surplus number",
+        lines(&LISTS, &[0, 0, 0, 0, 0, 0, 0]),
+    )?;
     tell(rt, "of no lists", lines(&[], &MOTHERS))
 }
 

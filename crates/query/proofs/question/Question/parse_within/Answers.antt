@@ -19,5 +19,6 @@ pub returns : need.returns
 returns c =
     let r = rw (c .front .ensures) at (c .in-Ok .ensures tt) in
     record {
-        refusal = whole-told (pairs-of (c .args .shapes)) (take 96 (c .args .signs .now)) (c .args .signs .now) _ (c .read .last .parts) (c .in-Ok .p .next) (c .in-Ok .p .rest .now) r (omega arith);
-        value = parses (pairs-of (c .args .shapes)) (take 96 (c .args .signs .now)) _ (c .read .last .parts) (c .in-Ok .p .next) (c .in-Ok .p .rest .now) r (c .in-Ok .ensures tt .long) }
+      refusal = whole-told (pairs-of (c .args .shapes)) (take 96 (c .args .signs .now)) (c .args .signs .now) _ (c .read .last .parts) (c .in-Ok .p .next) (c .in-Ok .p .rest .now) r (omega arith);
+      value = parses (pairs-of (c .args .shapes)) (take 96 (c .args .signs .now)) _ (c .read .last .parts) (c .in-Ok .p .next) (c .in-Ok .p .rest .now) r (c .in-Ok .ensures tt .long);
+    }
