@@ -11,7 +11,8 @@ use Rattle.std.proofs.shelf.Lists.{drop-drop, getD-drop, getD-set-same, getD-se
 use Rattle.std.proofs.shelf.Tests.{le-leb, lt-leb, lt-ltb, le-ltb, eq-eqb, ne-eqb}
 use Rattle.query.specs.Reading.{Sized, of-list, of-test, of-columns, of-join, of-union, of-without, test-fits, all-below, a-list, a-test, some-columns, a-join, a-union, a-without, no-sign, Read, read, bad, then, check, reads, by-sign, sign-in}
 use Rattle.query.specs.Reading.{Sign as ReadingSign}
-use Rattle.query.specs.Shapes.{no-part, part-at, test-of}
+use Rattle.query.specs.Ask.{Query}
+use Rattle.query.specs.Shapes.{no-part, part-at, test-of, query-by, query-of}
 use Rattle.query.specs.declared.Test.{Test}
 use Rattle.query.specs.Parts.{sized-by, sized-of, Numbers, Fits-by, Needs-by, Parted, Reads}
 use Rattle.query.specs.declared.Sign.{Sign}
@@ -63,6 +64,21 @@ parted-same (suc n) ss u ps qs p l h =
     (λ i v m q. parted-same n ss v (drop i ps) (drop i qs) q (simp length-drop (omega arith)) (λ j k. part-drop qs i j ∙ (h (i + j) (omega arith) ∙ sym (part-drop ps i j))))
     (part-at ps 0 .sign) (p .3) in
     rw e ((l, rw (c .0) (p .1), c .1 (p .2), c .2), c .0)
+
+-- The question itself, without its sizes.
+query-by-same : (sign : Sign) (w : ℕ) (ss : List (ℕ × ℕ)) (f : ℕ → Sized) (g : ℕ → Query) → ((i : ℕ) → f i .query ≡ g i) → sized-by sign w ss f .query ≡ query-by sign w g
+query-by-same (Rows t) w ss f g h = refl
+query-by-same (Keep t) w ss f g h = rw (h 1) refl
+query-by-same (Columns ps) w ss f g h = rw (h 1) refl
+query-by-same (Join k) w ss f g h = rw (h 1, h k) refl
+query-by-same (Union k) w ss f g h = rw (h 1, h k) refl
+query-by-same (Without k) w ss f g h = rw (h 1, h k) refl
+
+pub query-sized : (n : ℕ) (ss : List (ℕ × ℕ)) (ps : List Part) → sized-of n ss ps .query ≡ query-of n ps
+unfolding sized-of query-of
+query-sized zero ss ps = refl
+query-sized (suc n) ss ps =
+    query-by-same (part-at ps 0 .sign) (part-at ps 0 .width) ss (λ i. sized-of n ss (drop i ps)) (λ i. query-of n (drop i ps)) (λ i. query-sized n ss (drop i ps))
 
 -- one sign, and what is read behind it
 pub reads-step : (n : ℕ) (ss : List (ℕ × ℕ)) (at : ℕ) (xs : List ℕ) → 6 ≤ length xs →

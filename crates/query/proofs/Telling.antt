@@ -12,7 +12,7 @@ use Rattle.condition.proofs.Refusing.{first-none, unless-none}
 use Rattle.query.specs.Reading.{Sized, Read, read, sized, question-told, size-told, sizes-told, reads}
 use Rattle.query.specs.Parts.{Reads}
 use Rattle.query.specs.Shapes.{part-at}
-use Rattle.query.proofs.Parting.{first-part}
+use Rattle.query.proofs.Parting.{first-part, query-sized}
 use Rattle.query.specs.Questions.{Parses, Stands}
 use Rattle.query.specs.declared.Part.{Part}
 
@@ -26,7 +26,7 @@ pub parses : (ss : List (ℕ × ℕ)) (xs : List ℕ) (before after : List Part)
 parses ss xs before after next rest q long =
     let e : sized (reads 16 ss 0 xs) ≡ q .question = ap sized (q .is) in
     let n : next - 0 ≡ next = omega arith in
-    record { long = long; parts = rw n at (q .parts); sizes = q .sizes ∙ sym e; first = rw e (first-part 16 ss 0 xs before after next rest q) }
+    record { long = long; parts = rw n at (q .parts); sizes = q .sizes ∙ sym e; query = sym (query-sized 16 ss after) ∙ ap (λ (t : Sized). t .query) (q .sizes ∙ sym e); first = rw e (first-part 16 ss 0 xs before after next rest q) }
 
 -- a question that is not too large
 pub stands : (ss : List (ℕ × ℕ)) (r : Read) (ps : List Part) (n : ℕ) → Parses ss r ps n → None ≡ sizes-told (part-at ps 0 .lines) (part-at ps 0 .cost) → Stands ss r ps n
@@ -36,7 +36,7 @@ stands ss r ps n p e =
     record {
       long = p .long;
       parts = p .parts;
-      sizes = p .sizes;
+      sizes = p .sizes; query = p .query;
       first = p .first;
       lines = omega (arith, p .first .lines, leb-true (part-at ps 0 .lines) 4096 (unless-none (leb (part-at ps 0 .lines) 4096) 5 4097 (t .0)));
       cost = omega (arith, p .first .cost, leb-true (part-at ps 0 .cost) 65536 (unless-none (leb (part-at ps 0 .cost) 65536) 5 65537 (t .1)));

@@ -6,15 +6,21 @@ ghost use Rattle.std.specs.Vec.{made};
 ghost use Rattle.condition.specs.Refusals.{outcome, first};
 ghost use Rattle.list.specs.Layout.{lists-told};
 ghost use Rattle.list.specs.Layout as layout;
+ghost use Rattle.list.specs.Shapes.{rows-of};
+ghost use Rattle.query.specs.Ask.{ask};
+ghost use Rattle.query.specs.Rows.{tables-in};
 ghost use Rattle.query.specs.Reading.{asked, reads, sized, question-told, size-told, sizes-told};
-ghost use Rattle.query.specs.Shapes.{part-at, pairs-of, Few};
+ghost use Rattle.query.specs.Shapes.{part-at, pairs-of, query-of, Few};
 ghost use Rattle.query.specs.Questions.{Parses, Stands};
 use crate::Part;
 use crate::Sign;
+use crate::asking::ask_rows;
 use crate::reading::read;
 use condition::Refusal;
 use list::Shapes;
 use list::check_lists;
+use std::alloc::AllocError;
+use std::alloc::Global;
 
 // A question of at most 16 signs, by its parts.
 #[derive(Clone, Copy)]
@@ -65,6 +71,13 @@ impl Question {
         ensures { λ r. ⌜ r ≡ part-at (now (self .entry) .parts) 0 .cost ⌝ }
     {
         self.parts[0].cost
+    }
+
+    // The rows that it gives on filled lists.
+    pub fn ask(&self, heap: Global, tables: &[Vec<Vec<u64>>]) -> Result<Vec<Vec<u64>>, AllocError>
+        ensures { λ r. ⌜ made r (λ v. rows-of v ≡ ask (query-of 16 (now (self .entry) .parts)) (tables-in (now (tables .entry)))) ⌝ }
+    {
+        ask_rows(heap, &self.parts, 16, tables)
     }
 
     // Its parts, in reading order; those past its signs are not looked at.
