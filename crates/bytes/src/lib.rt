@@ -6,6 +6,7 @@ ghost use Rattle.std.specs.Vec.{made};
 ghost use mathlib.Core.List.{[], _∷_};
 ghost use Prim.Native.Nat.{_*_, _≤_};
 ghost use Rattle.bytes.specs.Numbers.{number-at, Taken, Read-on, Read-some};
+use condition::MOST_NODES;
 use condition::Refusal;
 use condition::RefusalFromRefused;
 use std::alloc::Global;
@@ -83,9 +84,8 @@ impl<'a> Input<'a> {
     }
 }
 
-// The lists of a file: their count, the node of what is known, and each list with at most `most` lines.
+// The lists of a file: their count, the node of what is known, and each list with at most `most` lines, and at most 64.
 pub fn read_lists(heap: Global, input: &mut Input, most: u64) -> Result<Vec<u64>, Refusal>
-    requires { ⌜ most ≤ 64 ⌝ }
     ensures { λ r. ⌜ made r (λ v. Read-some (now (now (input .entry) .rest)) [] (now (now (input .exit) .rest)) (vec-items v)) ⌝ }
 {
     let mut lists = Vec::new(heap);
@@ -97,7 +97,7 @@ pub fn read_lists(heap: Global, input: &mut Input, most: u64) -> Result<Vec<u64>
     if count > 8 {
         return Err(Refusal::BadLists(8));
     }
-    read_each(input, count, most, &mut lists)?;
+    read_each(input, count, most.min(64), &mut lists)?;
     Ok(lists)
 }
 
@@ -129,9 +129,11 @@ fn read_list(input: &mut Input, i: u64, most: u64, lists: &mut Vec<u64>) -> Resu
 
 // A store of `count` nodes: the count, and five numbers of the file a node.
 pub fn read_nodes(heap: Global, input: &mut Input, count: u64) -> Result<Vec<u64>, Refusal>
-    requires { ⌜ count ≤ 131072 ⌝ }
     ensures { λ r. ⌜ made r (λ v. Read-on (5 * count) (now (now (input .entry) .rest)) (count ∷ []) (now (now (input .exit) .rest)) (vec-items v)) ⌝ }
 {
+    if count > MOST_NODES {
+        return Err(Refusal::BadStore(count));
+    }
     let mut nodes = Vec::new(heap);
     nodes.push(count)?;
     input.numbers(5 * count, &mut nodes, Refusal::BadStore(count))?;
