@@ -12,6 +12,7 @@ mod adding;
 mod display;
 mod finding;
 mod reading;
+mod shown;
 mod store;
 
 pub use adding::add;
@@ -21,6 +22,8 @@ pub use display::NodeDisplay;
 pub use finding::find;
 pub use reading::cell_at;
 pub use reading::node_at;
+pub use shown::Condition;
+pub use shown::ConditionDisplay;
 pub use store::MOST_NODES;
 pub use store::read_node;
 pub use store::room;

@@ -1,5 +1,7 @@
 // Bad input of every kind, and what the libraries tell of it: one line a case, with the number and the place.
 use condition::Cell;
+use condition::Condition;
+use condition::ConditionDisplay;
 use condition::Node;
 use condition::NodeDisplay;
 use condition::Refusal;
@@ -92,6 +94,7 @@ fn main(rt: LibcRuntime) -> io::Result<()> {
     cut_lists(&rt)?;
     stores(&rt)?;
     nodes(&rt, rt.alloc())?;
+    words(&rt)?;
     named(&rt)?;
     questions(&rt)?;
     cut_questions(&rt)?;
@@ -225,6 +228,18 @@ fn found(rt: &LibcRuntime, case: &str, place: Option<u64>) -> io::Result<()> {
         Some(i) => println!(rt, "found {case}: {i}"),
         None => println!(rt, "found {case}: none"),
     }
+}
+
+// Conditions in words: what is known of the baptisms, node by node, a node that does not stand, and one that needs brackets.
+fn words(rt: &LibcRuntime) -> io::Result<()> {
+    let known = [6, 2, 1, 0, 0, 10, 2, 1, 0, 0, 11, 5, 0, 1, 0, 0, 2, 1, 0, 1, 1, 3, 3, 0, 0, 0, 4, 2, 4, 0, 0];
+    for node in 0..7u64 {
+        let condition = Condition { nodes: &known, node };
+        println!(rt, "condition {node}: {condition}")?;
+    }
+    let nested = [5, 0, 0, 0, 0, 0, 1, 0, 0, 0, 0, 4, 0, 1, 0, 0, 5, 2, 3, 0, 0, 3, 3, 0, 0, 0];
+    let condition = Condition { nodes: &nested, node: 4 };
+    println!(rt, "condition: {condition}")
 }
 
 fn named(rt: &LibcRuntime) -> io::Result<()> {
