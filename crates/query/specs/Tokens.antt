@@ -1,7 +1,9 @@
 -- Signs as the code first reads them, and the parts that it writes for them.
 --
 --   Token-is o s           the token o is the sign s
---   Put-one .., Put-pair ..   a part was written for a sign and the questions behind it; or its columns or widths do not fit
+--   list-part, one-part, pair-part     the part that is written for a sign and the questions behind it
+--   one-fits, pair-fits                whether its columns and widths fit
+--   Put b at p before after            the part p was written at its place, or nothing was
 use mathlib.Core.Path.{_≡_}
 use mathlib.Core.Bool.{Bool, true, false, _&&_}
 use mathlib.Core.List.{List}
@@ -10,10 +12,11 @@ use lib.Dec.{leb}
 use lib.ListN.{length, take, set}
 use Rattle.std.specs.declared.option.Option.{Option}
 use Rattle.std.specs.declared.option.Option.the-variants.{Some, None}
+use Rattle.list.specs.declared.shape.Shape.{Shape}
 use Rattle.query.specs.Reading.{a-list, a-test, some-columns, a-join, a-union, a-without, no-sign, test-fits, all-below}
 use Rattle.query.specs.Reading as signs
 use Rattle.query.specs.Shapes.{test-of, part-at}
-use Rattle.query.specs.declared.Sign.the-variants.{Keep, Columns, Join, Union, Without}
+use Rattle.query.specs.declared.Sign.the-variants.{Rows, Keep, Columns, Join, Union, Without}
 use Rattle.query.specs.declared.Part.{Part}
 use Rattle.query.specs.declared.reading.One.{One}
 use Rattle.query.specs.declared.reading.One.the-variants.{Test, Cut}
@@ -38,6 +41,10 @@ Token-is None s = s ≡ no-sign
 Token-is (Some (Listed t)) s = s ≡ a-list t
 Token-is (Some (Single one)) s = One-is one s
 Token-is (Some (Double pair)) s = s ≡ pair-of pair
+
+-- the part of list t, by its shape
+abbrev pub list-part : ℕ → Shape → Part
+list-part t s = record { sign = Rows t; lines = s .lines; width = s .width; cost = 0 }
 
 -- whether the columns of a sign are columns of a question that is w wide
 abbrev pub one-fits : One → ℕ → Bool

@@ -3,11 +3,13 @@ ghost use mathlib.Core.Path.{_≡_};
 ghost use mathlib.Core.List.{List};
 ghost use Prim.Native.Nat.{ℕ, _+_, _-_, _*_, _^_, _≤_, _<_};
 ghost use lib.ListN.{length, getD, take, drop};
+ghost use lib.Dec.{ltb};
 ghost use Rattle.std.specs.Results.{Cases};
+ghost use Rattle.list.specs.Shapes.{shape-of};
 ghost use Rattle.query.specs.Reading.{sign-in, reads, bad, all-below, test-fits};
 ghost use Rattle.query.specs.Shapes.{test-of, part-at, pairs-of, Few};
 ghost use Rattle.query.specs.Parts.{Reads};
-ghost use Rattle.query.specs.Tokens.{Token-is, one-fits, one-part, pair-fits, pair-part, Put};
+ghost use Rattle.query.specs.Tokens.{Token-is, list-part, one-fits, one-part, pair-fits, pair-part, Put};
 use crate::Part;
 use crate::Sign;
 use crate::Test;
@@ -89,19 +91,11 @@ pub(crate) fn read<'a>(
     let behind = &signs[6..];
     match token {
         Token::Listed(t) => {
-            let Some(shape) = shapes.get(t) else {
+            if !put_list(t, at, shapes, parts) {
                 return Err(at);
-            };
-            parts[at] = Part {
-                sign: Sign::Rows(t),
-                lines: shape.lines as u64,
-                width: shape.width,
-                cost: 0,
-            };
-            Ok(Reading {
-                next: at + 1,
-                rest: behind,
-            })
+            }
+            let next = at + 1;
+            Ok(Reading { next, rest: behind })
         }
         Token::Single(one) => {
             let p = match read(behind, left - 1, at + 1, shapes, parts) {
@@ -152,6 +146,25 @@ fn columns_fit(columns: [usize; 4], k: usize, w: usize) -> bool
             return false;
         }
     }
+    true
+}
+
+// Writes the part of a list, if there is such a list.
+fn put_list(t: usize, at: usize, shapes: Shapes, parts: &mut [Part]) -> bool
+    requires within { ⌜ at < length (now parts) ⌝ }
+    requires shapes { ⌜ Few shapes ⌝ }
+    ensures fits { λ r. ⌜ r ≡ ltb t (shapes .count) ⌝ }
+    ensures put { λ r. ⌜ Put r at (list-part t (shape-of shapes t)) (now (parts .entry)) (now (parts .exit)) ⌝ }
+{
+    let Some(shape) = shapes.get(t) else {
+        return false;
+    };
+    parts[at] = Part {
+        sign: Sign::Rows(t),
+        lines: shape.lines as u64,
+        width: shape.width,
+        cost: 0,
+    };
     true
 }
 

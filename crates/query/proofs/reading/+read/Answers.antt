@@ -3,7 +3,7 @@ use Prim.Native.Nat.{_-_, _≤_, _<_}
 use native.Mathlib.Omega.{arith}
 use lib.ListN.{length}
 use Rattle.std.proofs.shelf.Lists.{take-rest}
-use Rattle.list.specs.declared.shape.Shape.{Shape}
+use Rattle.std.proofs.shelf.Tests.{ltb-true, ltb-false}
 use Rattle.query.specs.Shapes.{pairs-of}
 use Rattle.query.proofs.Parting.{reads-short}
 use Rattle.query.proofs.Steps.{pairs-length, pairs-at, pairs-small, no-token, no-list, one-list, single-bad, single-off, single, double-bad, double-second-bad, double-off, double, single-room, rest-few, double-room}
@@ -15,17 +15,38 @@ returns-then-left-eq0 t c = reads-short _ _ _ _ (c .then-left-eq0 .either)
 pub returns-in-rest : need.returns-in-rest
 returns-in-rest t c = no-token (c .args .left) (pairs-of (c .args .shapes)) (c .args .at) (c .args .signs .now) (omega arith) (omega arith) (c .in-rest .ensures tt)
 
-pub returns-in-rest-get : need.returns-in-rest-get
-returns-in-rest-get t c =
-    no-list (c .args .left) (pairs-of (c .args .shapes)) (c .args .at) (c .args .signs .now) (omega arith) (omega arith) (c .in-Listed .t)
-    (rw (c .in-Listed .is) at (c .in-Some .ensures tt)) (omega (arith, pairs-length (c .args .shapes), c .in-rest-get .ensures tt))
+pub returns-then-not-put-list : need.returns-then-not-put-list
+returns-then-not-put-list t c =
+    no-list
+    (c .args .left)
+    (pairs-of (c .args .shapes))
+    (c .args .at)
+    (c .args .signs .now)
+    (omega arith)
+    (omega arith)
+    (c .in-Listed .t)
+    (rw (c .in-Listed .is) at (c .in-Some .ensures tt))
+    (omega (arith, pairs-length (c .args .shapes), ltb-false (c .in-Listed .t) (c .args .shapes .count) (sym (c .if-not-put-list .ensures tt .fits))))
 
-pub returns-in-Some-get : need.returns-in-Some-get
-returns-in-Some-get t c =
-    rw take-rest
-    (one-list (c .args .left) (pairs-of (c .args .shapes)) (c .args .at) (c .args .signs .now) (omega arith) (omega arith) (c .in-Listed .t) _ _ (c .args .parts .now) (omega arith)
-    (rw (c .in-Listed .is) at (c .in-Some .ensures tt)) (omega (arith, pairs-length (c .args .shapes), c .in-Some-get .ensures tt .0))
-    (pairs-at (c .args .shapes) (c .in-Listed .t) (c .in-Some-get .ensures tt .0) ∙ sym (ap (λ (s : Shape). (s .lines, s .width)) (c .in-Some-get .ensures tt .1))))
+pub returns-else-not-put-list : need.returns-else-not-put-list
+returns-else-not-put-list t c =
+    let l : c .in-Listed .t < c .args .shapes .count = ltb-true (c .in-Listed .t) (c .args .shapes .count) (sym (c .if-not-put-list .ensures tt .fits)) in
+    rw (take-rest, c .if-not-put-list .ensures tt .put)
+    (one-list
+        (c .args .left)
+        (pairs-of (c .args .shapes))
+        (c .args .at)
+        (c .args .signs .now)
+        (omega arith)
+        (omega arith)
+        (c .in-Listed .t)
+        _
+        _
+        (c .args .parts .now)
+        (omega arith)
+        (rw (c .in-Listed .is) at (c .in-Some .ensures tt))
+        (omega (arith, pairs-length (c .args .shapes)))
+        (pairs-at (c .args .shapes) (c .in-Listed .t) l))
 
 pub returns-in-Err : need.returns-in-Err
 returns-in-Err t c =
