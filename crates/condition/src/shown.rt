@@ -1,6 +1,5 @@
 // Conditions of a store in words.
 ghost use Prim.Native.Nat.{_≤_};
-
 use crate::Node;
 use crate::display::CellDisplay;
 use crate::read_node;
@@ -33,7 +32,13 @@ enum Around {
 }
 
 // Shows node i, and at most as many nodes as are left.
-fn show<W: fmt::Write>(nodes: &[u64], i: u64, around: Around, left: &mut u64, f: &mut fmt::Formatter<W>) -> fmt::Result
+fn show<W: fmt::Write>(
+    nodes: &[u64],
+    i: u64,
+    around: Around,
+    left: &mut u64,
+    f: &mut fmt::Formatter<W>,
+) -> fmt::Result
     ensures { λ _. ⌜ now (left .exit) ≤ now (left .entry) ⌝ }
 {
     if *left == 0 {
@@ -72,25 +77,13 @@ fn show<W: fmt::Write>(nodes: &[u64], i: u64, around: Around, left: &mut u64, f:
 
 // A place that node i may name: one that is not before it stands for none.
 fn before(i: u64, place: u64) -> u64 {
-    if place < i {
-        place
-    } else {
-        u64::MAX
-    }
+    if place < i { place } else { u64::MAX }
 }
 
 fn open(bracketed: bool) -> &'static str {
-    if bracketed {
-        "("
-    } else {
-        ""
-    }
+    if bracketed { "(" } else { "" }
 }
 
 fn close(bracketed: bool) -> &'static str {
-    if bracketed {
-        ")"
-    } else {
-        ""
-    }
+    if bracketed { ")" } else { "" }
 }

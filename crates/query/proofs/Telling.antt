@@ -36,7 +36,8 @@ stands ss r ps n p e =
     record {
       long = p .long;
       parts = p .parts;
-      sizes = p .sizes; query = p .query;
+      sizes = p .sizes;
+      query = p .query;
       first = p .first;
       lines = omega (arith, p .first .lines, leb-true (part-at ps 0 .lines) 4096 (unless-none (leb (part-at ps 0 .lines) 4096) 5 4097 (t .0)));
       cost = omega (arith, p .first .cost, leb-true (part-at ps 0 .cost) 65536 (unless-none (leb (part-at ps 0 .cost) 65536) 5 65537 (t .1)));

@@ -89,6 +89,101 @@ const MOTHERS: [u64; 30] = [
     0,
 ];
 
+// Always; a node that names itself twice; one that names a later one; one of the highest kind; a comparison of gap 64.
+const ODD_NODES: [u64; 26] = [
+    5,
+    0,
+    0,
+    0,
+    0,
+    0,
+    4,
+    1,
+    1,
+    0,
+    0,
+    3,
+    4,
+    0,
+    0,
+    0,
+    18446744073709551615,
+    0,
+    1,
+    0,
+    0,
+    2,
+    1,
+    64,
+    1,
+    64,
+];
+
+// g0 is 10 or 11, and g0 and g1 differ.
+const KNOWN: [u64; 31] = [
+    6,
+    2,
+    1,
+    0,
+    0,
+    10,
+    2,
+    1,
+    0,
+    0,
+    11,
+    5,
+    0,
+    1,
+    0,
+    0,
+    2,
+    1,
+    0,
+    1,
+    1,
+    3,
+    3,
+    0,
+    0,
+    0,
+    4,
+    2,
+    4,
+    0,
+    0,
+];
+
+// Not either of both of always and never, and of itself.
+const NESTED: [u64; 26] = [
+    5,
+    0,
+    0,
+    0,
+    0,
+    0,
+    1,
+    0,
+    0,
+    0,
+    0,
+    4,
+    0,
+    1,
+    0,
+    0,
+    5,
+    2,
+    3,
+    0,
+    0,
+    3,
+    3,
+    0,
+    0,
+    0,
+];
+
 fn main(rt: LibcRuntime) -> io::Result<()> {
     lists(&rt)?;
     cut_lists(&rt)?;
@@ -97,6 +192,7 @@ fn main(rt: LibcRuntime) -> io::Result<()> {
     words(&rt)?;
     named(&rt)?;
     questions(&rt)?;
+    columns(&rt)?;
     cut_questions(&rt)?;
     long_questions(&rt)?;
     large_question(&rt)
@@ -172,59 +268,27 @@ fn stores(rt: &LibcRuntime) -> io::Result<()> {
 
 // What nodes say that name themselves, later ones, or gaps that are none.
 fn nodes(rt: &LibcRuntime, heap: Global) -> io::Result<()> {
-    let store = [
-        5,
-        0,
-        0,
-        0,
-        0,
-        0,
-        4,
-        1,
-        1,
-        0,
-        0,
-        3,
-        4,
-        0,
-        0,
-        0,
-        MOST,
-        0,
-        1,
-        0,
-        0,
-        2,
-        1,
-        64,
-        1,
-        64,
-    ];
     for i in 0..6u64 {
-        match read_node(&store, i) {
+        match read_node(&ODD_NODES, i) {
             Some(node) => print!(rt, "node {i}: {node}, ")?,
             None => print!(rt, "node {i}: none, ")?,
         }
-        match holds_at(heap, &store, i, Filling::zeros()) {
+        match holds_at(heap, &ODD_NODES, i, Filling::zeros()) {
             Ok(true) => println!(rt, "holds")?,
             Ok(false) => println!(rt, "does not hold")?,
             Err(refusal) => tell(rt, "node", Err(refusal))?,
         }
     }
-    found(rt, "both 1 1", find(&store, Node::Both(1, 1)))?;
-    found(rt, "either 0 1", find(&store, Node::Either(0, 1)))?;
-    found(rt, "not 4", find(&store, Node::Not(4)))?;
-    found(
-        rt,
-        "g64 = g64",
-        find(&store, Node::Equal(Cell::Gap(64), Cell::Gap(64))),
-    )?;
-    found(rt, "never", find(&store, Node::Never))
+    found(rt, "both 1 1", Node::Both(1, 1))?;
+    found(rt, "either 0 1", Node::Either(0, 1))?;
+    found(rt, "not 4", Node::Not(4))?;
+    found(rt, "g64 = g64", Node::Equal(Cell::Gap(64), Cell::Gap(64)))?;
+    found(rt, "never", Node::Never)
 }
 
-// Where a node was found.
-fn found(rt: &LibcRuntime, case: &str, place: Option<u64>) -> io::Result<()> {
-    match place {
+// Where a node is found among the odd ones.
+fn found(rt: &LibcRuntime, case: &str, node: Node) -> io::Result<()> {
+    match find(&ODD_NODES, node) {
         Some(i) => println!(rt, "found {case}: {i}"),
         None => println!(rt, "found {case}: none"),
     }
@@ -232,13 +296,17 @@ fn found(rt: &LibcRuntime, case: &str, place: Option<u64>) -> io::Result<()> {
 
 // Conditions in words: what is known of the baptisms, node by node, a node that does not stand, and one that needs brackets.
 fn words(rt: &LibcRuntime) -> io::Result<()> {
-    let known = [6, 2, 1, 0, 0, 10, 2, 1, 0, 0, 11, 5, 0, 1, 0, 0, 2, 1, 0, 1, 1, 3, 3, 0, 0, 0, 4, 2, 4, 0, 0];
     for node in 0..7u64 {
-        let condition = Condition { nodes: &known, node };
+        let condition = Condition {
+            nodes: &KNOWN,
+            node,
+        };
         println!(rt, "condition {node}: {condition}")?;
     }
-    let nested = [5, 0, 0, 0, 0, 0, 1, 0, 0, 0, 0, 4, 0, 1, 0, 0, 5, 2, 3, 0, 0, 3, 3, 0, 0, 0];
-    let condition = Condition { nodes: &nested, node: 4 };
+    let condition = Condition {
+        nodes: &NESTED,
+        node: 4,
+    };
     println!(rt, "condition: {condition}")
 }
 
@@ -272,85 +340,63 @@ fn lines(lists: &[u64], signs: &[u64]) -> Result<u64, Refusal> {
     }
 }
 
+// What is told of a question's signs on the baptisms and marriages.
+fn ask(rt: &LibcRuntime, case: &str, signs: &[u64]) -> io::Result<()> {
+    tell(rt, case, lines(&LISTS, signs))
+}
+
 fn questions(rt: &LibcRuntime) -> io::Result<()> {
-    tell(rt, "question", lines(&LISTS, &MOTHERS))?;
-    tell(rt, "no signs", lines(&LISTS, &[]))?;
-    tell(rt, "kind 9", lines(&LISTS, &[9, 0, 0, 0, 0, 0]))?;
-    tell(
-        rt,
-        "a very high kind",
-        lines(&LISTS, &[MOST, 0, 0, 0, 0, 0]),
-    )?;
-    tell(rt, "list 2", lines(&LISTS, &[0, 2, 0, 0, 0, 0]))?;
-    tell(
-        rt,
-        "a very high list",
-        lines(&LISTS, &[0, MOST, 0, 0, 0, 0]),
-    )?;
-    tell(
-        rt,
-        "column 2 of two",
-        lines(&LISTS, &[3, 2, 7, 0, 0, 0, 0, 0, 0, 0, 0, 0]),
-    )?;
-    tell(
-        rt,
-        "no columns",
-        lines(&LISTS, &[5, 0, 0, 0, 0, 0, 0, 0, 0, 0, 0, 0]),
-    )?;
-    tell(
+    ask(rt, "question", &MOTHERS)?;
+    ask(rt, "no signs", &[])?;
+    ask(rt, "kind 9", &[9, 0, 0, 0, 0, 0])?;
+    ask(rt, "a very high kind", &[MOST, 0, 0, 0, 0, 0])?;
+    ask(rt, "list 2", &[0, 2, 0, 0, 0, 0])?;
+    ask(rt, "a very high list", &[0, MOST, 0, 0, 0, 0])?;
+    ask(rt, "a surplus sign", &[0, 0, 0, 0, 0, 0, 0, 0, 0, 0, 0, 0])?;
+    ask(rt, "a surplus number", &[0, 0, 0, 0, 0, 0, 0])?;
+    tell(rt, "of no lists", lines(&[], &MOTHERS))
+}
+
+fn columns(rt: &LibcRuntime) -> io::Result<()> {
+    ask(rt, "column 2 of two", &[3, 2, 7, 0, 0, 0, 0, 0, 0, 0, 0, 0])?;
+    ask(rt, "no columns", &[5, 0, 0, 0, 0, 0, 0, 0, 0, 0, 0, 0])?;
+    ask(
         rt,
         "very many columns",
-        lines(&LISTS, &[5, MOST, 0, 0, 0, 0, 0, 0, 0, 0, 0, 0]),
+        &[5, MOST, 0, 0, 0, 0, 0, 0, 0, 0, 0, 0],
     )?;
-    tell(
+    ask(
         rt,
         "a bad list under a bad column",
-        lines(&LISTS, &[5, 1, 9, 0, 0, 0, 0, 9, 0, 0, 0, 0]),
+        &[5, 1, 9, 0, 0, 0, 0, 9, 0, 0, 0, 0],
     )?;
-    tell(
-        rt,
-        "lists of other widths",
-        lines(
-            &LISTS,
-            &[
-                7,
-                0,
-                0,
-                0,
-                0,
-                0,
-                0,
-                0,
-                0,
-                0,
-                0,
-                0,
-                5,
-                1,
-                0,
-                0,
-                0,
-                0,
-                0,
-                1,
-                0,
-                0,
-                0,
-                0,
-            ],
-        ),
-    )?;
-    tell(
-        rt,
-        "a surplus sign",
-        lines(&LISTS, &[0, 0, 0, 0, 0, 0, 0, 0, 0, 0, 0, 0]),
-    )?;
-    tell(
-        rt,
-        "a surplus number",
-        lines(&LISTS, &[0, 0, 0, 0, 0, 0, 0]),
-    )?;
-    tell(rt, "of no lists", lines(&[], &MOTHERS))
+    let unequal = [
+        7,
+        0,
+        0,
+        0,
+        0,
+        0,
+        0,
+        0,
+        0,
+        0,
+        0,
+        0,
+        5,
+        1,
+        0,
+        0,
+        0,
+        0,
+        0,
+        1,
+        0,
+        0,
+        0,
+        0,
+    ];
+    ask(rt, "lists of other widths", &unequal)
 }
 
 // A question cut at every length.

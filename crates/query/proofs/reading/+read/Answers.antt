@@ -33,20 +33,20 @@ returns-else-not-put-list t c =
     let l : c .in-Listed .t < c .args .shapes .count = ltb-true (c .in-Listed .t) (c .args .shapes .count) (sym (c .if-not-put-list .ensures tt .fits)) in
     rw (take-rest, c .if-not-put-list .ensures tt .put)
     (one-list
-        (c .args .left)
-        (pairs-of (c .args .shapes))
-        (c .args .at)
-        (c .args .signs .now)
-        (omega arith)
-        (omega arith)
-        (c .in-Listed .t)
-        _
-        _
-        (c .args .parts .now)
-        (omega arith)
-        (rw (c .in-Listed .is) at (c .in-Some .ensures tt))
-        (omega (arith, pairs-length (c .args .shapes)))
-        (pairs-at (c .args .shapes) (c .in-Listed .t) l))
+    (c .args .left)
+    (pairs-of (c .args .shapes))
+    (c .args .at)
+    (c .args .signs .now)
+    (omega arith)
+    (omega arith)
+    (c .in-Listed .t)
+    _
+    _
+    (c .args .parts .now)
+    (omega arith)
+    (rw (c .in-Listed .is) at (c .in-Some .ensures tt))
+    (omega (arith, pairs-length (c .args .shapes)))
+    (pairs-at (c .args .shapes) (c .in-Listed .t) l))
 
 pub returns-in-Err : need.returns-in-Err
 returns-in-Err t c =
