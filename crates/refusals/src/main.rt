@@ -1,4 +1,7 @@
 // Bad input of every kind, and what the libraries tell of it: one line a case, with the number and the place.
+use bytes::Input;
+use bytes::read_lists;
+use bytes::read_nodes;
 use condition::Cell;
 use condition::Condition;
 use condition::ConditionDisplay;
@@ -184,6 +187,59 @@ const NESTED: [u64; 26] = [
     0,
 ];
 
+// Two lists of one line and one column, four bytes a number: count, node of what is known, and for each list lines, columns and
+// the line.
+const FILE: [u8; 48] = [
+    2,
+    0,
+    0,
+    0,
+    0,
+    0,
+    0,
+    0,
+    1,
+    0,
+    0,
+    0,
+    1,
+    0,
+    0,
+    0,
+    0,
+    0,
+    0,
+    0,
+    0,
+    0,
+    0,
+    0,
+    5,
+    0,
+    0,
+    0,
+    1,
+    0,
+    0,
+    0,
+    1,
+    0,
+    0,
+    0,
+    0,
+    0,
+    0,
+    0,
+    1,
+    0,
+    0,
+    0,
+    7,
+    0,
+    0,
+    0,
+];
+
 fn main(rt: LibcRuntime) -> io::Result<()> {
     lists(&rt)?;
     cut_lists(&rt)?;
@@ -191,6 +247,8 @@ fn main(rt: LibcRuntime) -> io::Result<()> {
     nodes(&rt, rt.alloc())?;
     words(&rt)?;
     named(&rt)?;
+    files(&rt, rt.alloc())?;
+    file_bounds(&rt, rt.alloc())?;
     questions(&rt)?;
     columns(&rt)?;
     cut_questions(&rt)?;
@@ -308,6 +366,68 @@ fn words(rt: &LibcRuntime) -> io::Result<()> {
         node: 4,
     };
     println!(rt, "condition: {condition}")
+}
+
+// What is told of a file's lists, with at most two lines a list, and of its nodes.
+fn files(rt: &LibcRuntime, heap: Global) -> io::Result<()> {
+    print!(rt, "a file of two lists cut at each length:")?;
+    for n in 0..FILE.len() + 1 {
+        let mut input = Input::new(&FILE[0..n]);
+        match read_lists(heap, &mut input, 2) {
+            Ok(lists) => {
+                let count = lists.len();
+                let left = input.left();
+                print!(rt, " {count} numbers and {left} bytes left")?;
+            }
+            Err(refusal) => {
+                let (number, place) = refusal.told();
+                print!(rt, " {number} {place},")?;
+            }
+        }
+    }
+    println!(rt, "")
+}
+
+// What is told of lists whose count, first lines and first columns are these.
+fn file(
+    rt: &LibcRuntime,
+    heap: Global,
+    case: &str,
+    count: u8,
+    lines: u8,
+    columns: u8,
+) -> io::Result<()> {
+    let mut bytes = FILE;
+    bytes[0] = count;
+    bytes[8] = lines;
+    bytes[12] = columns;
+    let mut input = Input::new(&bytes);
+    match read_lists(heap, &mut input, 2) {
+        Ok(lists) => tell(rt, case, Ok(lists.len() as u64)),
+        Err(refusal) => tell(rt, case, Err(refusal)),
+    }
+}
+
+// Files at the bounds: their lists and their nodes.
+fn file_bounds(rt: &LibcRuntime, heap: Global) -> io::Result<()> {
+    file(rt, heap, "file: as it is", 2, 1, 1)?;
+    file(rt, heap, "file: no lists", 0, 1, 1)?;
+    file(rt, heap, "file: eight lists", 8, 1, 1)?;
+    file(rt, heap, "file: nine lists", 9, 1, 1)?;
+    file(rt, heap, "file: no lines", 1, 0, 4)?;
+    file(rt, heap, "file: two lines", 1, 2, 1)?;
+    file(rt, heap, "file: three lines", 1, 3, 1)?;
+    file(rt, heap, "file: no columns", 1, 1, 0)?;
+    file(rt, heap, "file: four columns", 1, 1, 4)?;
+    file(rt, heap, "file: five columns", 1, 1, 5)?;
+    for count in 2..4u64 {
+        let mut input = Input::new(&FILE);
+        match read_nodes(heap, &mut input, count) {
+            Ok(nodes) => tell(rt, "file: numbers of the nodes", Ok(nodes.len() as u64))?,
+            Err(refusal) => tell(rt, "file: nodes", Err(refusal))?,
+        }
+    }
+    Ok(())
 }
 
 fn named(rt: &LibcRuntime) -> io::Result<()> {
