@@ -16,7 +16,7 @@ use std::alloc::AllocError;
 use std::alloc::Global;
 
 // The rows that the question that begins with the first of the parts gives on the lists; at most `left` parts deep.
-pub fn ask_rows(
+pub(crate) fn ask_rows(
     heap: Global,
     parts: &[Part],
     left: u64,
@@ -57,7 +57,7 @@ pub fn ask_rows(
 }
 
 // A copy of the rows of a list; none past the last list.
-pub fn table(heap: Global, tables: &[Vec<Vec<u64>>], t: usize) -> Result<Vec<Vec<u64>>, AllocError>
+pub(crate) fn table(heap: Global, tables: &[Vec<Vec<u64>>], t: usize) -> Result<Vec<Vec<u64>>, AllocError>
     ensures { λ r. ⌜ made r (λ v. rows-of v ≡ getD (tables-in (now (tables .entry))) t []) ⌝ }
 {
     if t < tables.len() {
@@ -68,7 +68,7 @@ pub fn table(heap: Global, tables: &[Vec<Vec<u64>>], t: usize) -> Result<Vec<Vec
 }
 
 // The rows that pass a test.
-pub fn kept(heap: Global, test: Test, rows: &[Vec<u64>]) -> Result<Vec<Vec<u64>>, AllocError>
+pub(crate) fn kept(heap: Global, test: Test, rows: &[Vec<u64>]) -> Result<Vec<Vec<u64>>, AllocError>
     ensures { λ r. ⌜ made r (λ v. rows-of v ≡ kept (test-of test) (rows-in (now (rows .entry)))) ⌝ }
 {
     let mut out = Vec::new(heap);
@@ -82,7 +82,7 @@ pub fn kept(heap: Global, test: Test, rows: &[Vec<u64>]) -> Result<Vec<Vec<u64>>
 }
 
 // Of each row these columns.
-pub fn cut_to(
+pub(crate) fn cut_to(
     heap: Global,
     columns: &[usize],
     rows: &[Vec<u64>],
@@ -98,7 +98,7 @@ pub fn cut_to(
 }
 
 // Each of the rows followed by each of the others.
-pub fn joined(
+pub(crate) fn joined(
     heap: Global,
     rows: &[Vec<u64>],
     others: &[Vec<u64>],
@@ -113,7 +113,7 @@ pub fn joined(
 }
 
 // The rows of both.
-pub fn united(
+pub(crate) fn united(
     heap: Global,
     rows: &[Vec<u64>],
     others: &[Vec<u64>],
@@ -126,7 +126,7 @@ pub fn united(
 }
 
 // The rows that are none of the others.
-pub fn less(
+pub(crate) fn less(
     heap: Global,
     rows: &[Vec<u64>],
     others: &[Vec<u64>],
@@ -144,7 +144,7 @@ pub fn less(
 }
 
 // A copy of the rows.
-pub fn copied(heap: Global, rows: &[Vec<u64>]) -> Result<Vec<Vec<u64>>, AllocError>
+pub(crate) fn copied(heap: Global, rows: &[Vec<u64>]) -> Result<Vec<Vec<u64>>, AllocError>
     ensures { λ r. ⌜ made r (λ v. rows-of v ≡ rows-in (now (rows .entry))) ⌝ }
 {
     let mut out = Vec::new(heap);
@@ -153,7 +153,7 @@ pub fn copied(heap: Global, rows: &[Vec<u64>]) -> Result<Vec<Vec<u64>>, AllocErr
 }
 
 // Whether a row passes a test; a column past its end counts as 0.
-pub fn passes(test: Test, row: &[u64]) -> bool
+pub(crate) fn passes(test: Test, row: &[u64]) -> bool
     ensures { λ r. ⌜ r ≡ passes (test-of test) (now (row .entry)) ⌝ }
 {
     match test {
@@ -177,7 +177,7 @@ pub fn stands(row: &[u64], rows: &[Vec<u64>]) -> bool
 }
 
 // Whether two rows are equal.
-pub fn same_row(a: &[u64], b: &[u64]) -> bool
+pub(crate) fn same_row(a: &[u64], b: &[u64]) -> bool
     ensures { λ r. ⌜ r ≡ same-row (now (a .entry)) (now (b .entry)) ⌝ }
 {
     a == b

@@ -1,21 +1,11 @@
 // Questions: signs in a slice of numbers, and what they ask of filled lists.
 ghost use Rattle.query.specs.Reading.{Few-lines};
-pub use asking::ask_rows;
-pub use asking::copied;
-pub use asking::cut_to;
-pub use asking::joined;
-pub use asking::kept;
-pub use asking::less;
-pub use asking::passes;
-pub use asking::same_row;
-pub use asking::stands;
-pub use asking::table;
-pub use asking::united;
 
 mod asking;
 mod question;
 mod reading;
 
+pub use asking::stands;
 pub use question::Question;
 
 // What a row may be tested for.

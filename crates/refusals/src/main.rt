@@ -414,12 +414,11 @@ fn file_bounds(rt: &LibcRuntime, heap: Global) -> io::Result<()> {
     file(rt, heap, "file: no lists", 0, 1, 1)?;
     file(rt, heap, "file: eight lists", 8, 1, 1)?;
     file(rt, heap, "file: nine lists", 9, 1, 1)?;
-    file(rt, heap, "file: no lines", 1, 0, 4)?;
+    file(rt, heap, "file: no lines, four columns", 1, 0, 4)?;
     file(rt, heap, "file: two lines", 1, 2, 1)?;
     file(rt, heap, "file: three lines", 1, 3, 1)?;
     file(rt, heap, "file: no columns", 1, 1, 0)?;
-    file(rt, heap, "file: four columns", 1, 1, 4)?;
-    file(rt, heap, "file: five columns", 1, 1, 5)?;
+    file(rt, heap, "file: five columns", 1, 0, 5)?;
     for count in 2..4u64 {
         let mut input = Input::new(&FILE);
         match read_nodes(heap, &mut input, count) {
