@@ -2,3 +2,5 @@ pub mod Right
 pub mod Known
 pub mod Baptisms
 pub mod Numbers
+pub mod Tabs
+pub mod Lines

@@ -3,3 +3,4 @@ pub mod Promise
 pub mod Entry
 pub mod Baptisms
 pub mod Numbers
+pub mod Plan
