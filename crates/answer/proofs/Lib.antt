@@ -4,3 +4,5 @@ pub mod Baptisms
 pub mod Numbers
 pub mod Tabs
 pub mod Lines
+pub mod Steps
+pub mod Whole

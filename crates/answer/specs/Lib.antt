@@ -4,3 +4,4 @@ pub mod Entry
 pub mod Baptisms
 pub mod Numbers
 pub mod Plan
+pub mod Laid
