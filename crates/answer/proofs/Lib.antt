@@ -6,3 +6,4 @@ pub mod Tabs
 pub mod Lines
 pub mod Steps
 pub mod Whole
+pub mod Views

@@ -5,3 +5,4 @@ pub mod Baptisms
 pub mod Numbers
 pub mod Plan
 pub mod Laid
+pub mod Planned
