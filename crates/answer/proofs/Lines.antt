@@ -123,8 +123,8 @@ lines-in-tab ns n w at ys =
     let xs = lines-in ns n w (drop at ys) in let d : Line = record { cells = []; if-so = always } in
     as-tab xs d ∙ (ap (λ n. tab n (λ i. getD xs i d)) (length-lines ns n w (drop at ys))
     ∙ tab-same n _ _ (λ i l.
-        let k = at + i * line-size w in
-        line-of-part ns n w i at ys (drop k ys) d l refl ∙ line-same _ _ _ _ (cells-in-tab w k ys) (rw (getD-drop k ys 0 0, add-zero k) refl)))
+    let k = at + i * line-size w in
+    line-of-part ns n w i at ys (drop k ys) d l refl ∙ line-same _ _ _ _ (cells-in-tab w k ys) (rw (getD-drop k ys 0 0, add-zero k) refl)))
 
 pub answer-is : (ns ls : List ℕ) (c : ℕ) (p : Plan) → Fits ls c p → answer-to ns ls p ≡ tab (many p) (line-of ns ls p)
 unfolding answer-to many wide cell says Fits
@@ -138,13 +138,14 @@ answer-is ns ls c (join p q) f =
     ∙ tab-same (many p * many q) _ _ (λ i l. line-same _ _ _ _ (tab-union (wide p) (wide q) (cell ls p (i / many q)) (cell ls q (i % many q))) refl))
 answer-is ns ls c (union p q) f =
     rw (answer-is ns ls c p (f .1), answer-is ns ls c q (f .2)) (tab-union (many p) (many q) (line-of ns ls p) (line-of ns ls q)
-    ∙ tab-same (many p + many q) _ _ (λ i l. elim (cases-lt i (many p))
-        [ inl m ↦ let e = lt-ltb i (many p) m in
-            rw e (line-same _ _ _ _ (tab-same (wide p) _ _ (λ a k. rw e refl)) refl)
-        | inr m ↦ let e = le-ltb i (many p) m in
-            rw e (line-same _ _ _ _ (ap (λ v. tab v (cell ls q (i - many p))) (sym (f .0)) ∙ tab-same (wide p) _ _ (λ a k. rw e refl)) refl) ]))
+    ∙ tab-same (many p + many q) _ _ (λ i l. elim (cases-lt i (many p)) [
+      | inl m ↦ let e = lt-ltb i (many p) m in
+          rw e (line-same _ _ _ _ (tab-same (wide p) _ _ (λ a k. rw e refl)) refl)
+      | inr m ↦ let e = le-ltb i (many p) m in
+          rw e (line-same _ _ _ _ (ap (λ v. tab v (cell ls q (i - many p))) (sym (f .0)) ∙ tab-same (wide p) _ _ (λ a k. rw e refl)) refl)
+    ]))
 answer-is ns ls c (without p q) f =
     rw (answer-is ns ls c p (f .1), answer-is ns ls c q (f .2)) (less-tab (many p) (line-of ns ls p) (tab (many q) (line-of ns ls q))
     ∙ tab-same (many p) _ _ (λ i l. line-same _ _ _ _ refl
-        (ap (λ t. spared (tab (wide p) (cell ls p i)) t (says ns ls p i)) (tab-same (many q) (line-of ns ls q) (λ j. record { cells = tab (wide p) (cell ls q j); if-so = says ns ls q j }) (λ j m. line-same _ _ _ _ (ap (λ v. tab v (cell ls q j)) (sym (f .0))) refl))
-        ∙ spared-tab (many q) (wide p) (cell ls p i) (says ns ls q) (cell ls q) (says ns ls p i))))
+    (ap (λ t. spared (tab (wide p) (cell ls p i)) t (says ns ls p i)) (tab-same (many q) (line-of ns ls q) (λ j. record { cells = tab (wide p) (cell ls q j); if-so = says ns ls q j }) (λ j m. line-same _ _ _ _ (ap (λ v. tab v (cell ls q j)) (sym (f .0))) refl))
+    ∙ spared-tab (many q) (wide p) (cell ls p i) (says ns ls q) (cell ls q) (says ns ls p i))))

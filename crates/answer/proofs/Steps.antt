@@ -21,8 +21,9 @@ rid-same (suc m) w f d e g a b h k = rw (rid-same m w f d e g a b (λ j l. h j (
 
 pub based-grown : (c : ℕ) (ns ns₁ : List ℕ) → Grown ns ns₁ → Based c ns → Based c ns₁
 based-grown c ns ns₁ g b = record {
-    low = omega (arith, b .low, g .more);
-    always = grown-cond ns ns₁ g c (omega (arith, b .low)) ∙ b .always }
+  low = omega (arith, b .low, g .more);
+  always = grown-cond ns ns₁ g c (omega (arith, b .low)) ∙ b .always;
+}
 
 pub ready-more : (ls : List ℕ) (c : ℕ) (p : Plan) (b t u : ℕ) → t ≤ u → Ready ls c p b t → Ready ls c p b u
 ready-more ls c p b t u l r = record { fits = r .fits; low = r .low; stand = λ i m. omega (arith, r .stand i m) }
@@ -32,14 +33,17 @@ added-none f g s ns l = record { grown = grown-self ns l; more = omega (arith, z
 
 pub added-more : (f : ℕ → ℕ) (g : ℕ → Cond) (s n r : ℕ) (d : Cond) (ns ns₁ ns₂ : List ℕ) → Added f g s n ns ns₁ → New s r d ns₁ ns₂ → r ≡ f n → d ≡ g n → Added f g s (n + 1) ns ns₂
 added-more f g s n r d ns ns₁ ns₂ a w e h = record {
-    grown = grown-trans ns ns₁ ns₂ (a .grown) (w .grown);
-    more = rw add-one (omega (arith, a .more, w .more, suc-mul n s));
-    within = λ i m. elim (cases-lt i n)
-      [ inl l ↦ omega (arith, a .within i l, w .more)
-      | inr l ↦ let q : n ≡ i = omega arith in subst (λ t. f t < count ns₂) q (subst (λ t. t < count ns₂) e (w .within)) ];
-    is = λ i m. elim (cases-lt i n)
-      [ inl l ↦ grown-cond ns₁ ns₂ (w .grown) (f i) (a .within i l) ∙ a .is i l
-      | inr l ↦ let q : n ≡ i = omega arith in subst (λ t. cond-at ns₂ (f t) ≡ g t) q (subst (λ t. cond-at ns₂ t ≡ g n) e (w .is ∙ h)) ] }
+  grown = grown-trans ns ns₁ ns₂ (a .grown) (w .grown);
+  more = rw add-one (omega (arith, a .more, w .more, suc-mul n s));
+  within = λ i m. elim (cases-lt i n) [
+    | inl l ↦ omega (arith, a .within i l, w .more)
+    | inr l ↦ let q : n ≡ i = omega arith in subst (λ t. f t < count ns₂) q (subst (λ t. t < count ns₂) e (w .within))
+  ];
+  is = λ i m. elim (cases-lt i n) [
+    | inl l ↦ grown-cond ns₁ ns₂ (w .grown) (f i) (a .within i l) ∙ a .is i l
+    | inr l ↦ let q : n ≡ i = omega arith in subst (λ t. cond-at ns₂ (f t) ≡ g t) q (subst (λ t. cond-at ns₂ t ≡ g n) e (w .is ∙ h))
+  ];
+}
 
 -- a turn's node, seen from where the loop began
 pub last-is : (b s n t : ℕ) → t ≡ b + n * s → t + s - 1 ≡ last-of b s n
@@ -72,16 +76,16 @@ pub join-more : (ls : List ℕ) (p : Plan) (b : ℕ) (q : Plan) (d i x y m r : �
     → r ≡ count ns₁ → New 1 r (both (cond-at ns₁ x) (cond-at ns₁ y)) ns₁ ns₂ → Joined ls p b q d (i + 1) ns ns₂
 join-more ls p b q d i x y m r ns ns₁ ns₂ em a ex ey lx ly er w =
     added-more (λ j. count ns + j) (λ j. both (now-at ns ls p b (j / many q)) (now-at ns ls q d (j % many q))) 1 i r (both (cond-at ns₁ x) (cond-at ns₁ y)) ns ns₁ ns₂ a w
-      (omega (arith, er, a .more))
-      (rw (ex, ey, grown-cond ns ns₁ (a .grown) (place ls p b (i / m)) lx, grown-cond ns ns₁ (a .grown) (place ls q d (i % m)) ly, em) refl)
+    (omega (arith, er, a .more))
+    (rw (ex, ey, grown-cond ns ns₁ (a .grown) (place ls p b (i / m)) lx, grown-cond ns ns₁ (a .grown) (place ls q d (i % m)) ly, em) refl)
 
 -- one column of two lines
 pub equals-turn : (f g : ℕ → Cell) (w r a e s u : ℕ) (ns ns₁ ns₂ ns₃ : List ℕ) → r < w → a ≡ w - 1 - r → New (2 * r) e (equals r (w - r) f g) ns ns₁
     → New 1 s (equal (f a) (g a)) ns₁ ns₂ → New 1 u (both (cond-at ns₂ s) (cond-at ns₂ e)) ns₂ ns₃ → New (2 * (r + 1)) u (equals (r + 1) (w - (r + 1)) f g) ns ns₃
 equals-turn f g w r a e s u ns ns₁ ns₂ ns₃ l q x y z =
     new-as (2 * r + (1 + 1)) (2 * (r + 1)) u _ _ ns ns₃ (omega arith)
-      (rw (y .is, grown-cond ns₁ ns₂ (y .grown) e (x .within), x .is) (equals-more w r a f g l q))
-      (new-trans (2 * r) (1 + 1) e u _ _ ns ns₁ ns₃ x (new-trans 1 1 s u _ _ ns₁ ns₂ ns₃ y z))
+    (rw (y .is, grown-cond ns₁ ns₂ (y .grown) e (x .within), x .is) (equals-more w r a f g l q))
+    (new-trans (2 * r) (1 + 1) e u _ _ ns ns₁ ns₃ x (new-trans 1 1 s u _ _ ns₁ ns₂ ns₃ y z))
 
 -- one line rid another
 pub spare-turn : (w c d e f g r : ℕ) (b x : Cond) (ns ns₁ ns₂ ns₃ ns₄ : List ℕ) → c < count ns → d < count ns → cond-at ns d ≡ b → New (2 * w) e x ns ns₁
@@ -90,8 +94,8 @@ pub spare-turn : (w c d e f g r : ℕ) (b x : Cond) (ns ns₁ ns₂ ns₃ ns₄ 
 spare-turn w c d e f g r b x ns ns₁ ns₂ ns₃ ns₄ lc ld eb p q s t =
     let g₃ = grown-trans ns ns₂ ns₃ (grown-trans ns ns₁ ns₂ (p .grown) (q .grown)) (s .grown) in
     new-as (2 * w + (1 + (1 + 1))) (2 * w + 3) r _ _ ns ns₄ (omega arith)
-      (rw (grown-cond ns ns₃ g₃ c lc, s .is, q .is, p .is, grown-cond ns ns₁ (p .grown) d ld, eb) refl)
-      (new-trans (2 * w) (1 + (1 + 1)) e r _ _ ns ns₁ ns₄ p (new-trans 1 (1 + 1) f r _ _ ns₁ ns₂ ns₄ q (new-trans 1 1 g r _ _ ns₂ ns₃ ns₄ s t)))
+    (rw (grown-cond ns ns₃ g₃ c lc, s .is, q .is, p .is, grown-cond ns ns₁ (p .grown) d ld, eb) refl)
+    (new-trans (2 * w) (1 + (1 + 1)) e r _ _ ns ns₁ ns₄ p (new-trans 1 (1 + 1) f r _ _ ns₁ ns₂ ns₄ q (new-trans 1 1 g r _ _ ns₂ ns₃ ns₄ s t)))
 
 pub less-none : (ls : List ℕ) (p : Plan) (b : ℕ) (q : Plan) (d i x : ℕ) (ns : List ℕ) → 1 + 5 * count ns ≤ length ns → x ≡ place ls p b i → place ls p b i < count ns
     → New (less-size (wide p) 0) x (less ns ls p b q d i 0) ns ns
@@ -105,8 +109,8 @@ pub less-more : (ls : List ℕ) (p : Plan) (b : ℕ) (q : Plan) (d i j x y : ℕ
 unfolding rid
 less-more ls p b q d i j x y ns ns₁ ns₂ l a w =
     new-as (less-size (wide p) j + (2 * wide p + 3)) (less-size (wide p) (j + 1)) y _ _ ns ns₂ (rw add-one (omega (arith, suc-mul j (2 * wide p + 3))))
-      (rw (a .is, grown-cond ns ns₁ (a .grown) (place ls q d j) l, add-one j) refl)
-      (new-trans (less-size (wide p) j) (2 * wide p + 3) x y _ _ ns ns₁ ns₂ a w)
+    (rw (a .is, grown-cond ns ns₁ (a .grown) (place ls q d j) l, add-one j) refl)
+    (new-trans (less-size (wide p) j) (2 * wide p + 3) x y _ _ ns ns₁ ns₂ a w)
 
 pub less-all : (ls : List ℕ) (p : Plan) (b : ℕ) (q : Plan) (d i j x : ℕ) (ns ns₁ : List ℕ) → j ≡ many q → New (less-size (wide p) j) x (less ns ls p b q d i j) ns ns₁ → x + 1 ≡ count ns₁
     → New (less-size (wide p) (many q)) (count ns + less-size (wide p) (many q) - 1) (less ns ls p b q d i (many q)) ns ns₁
@@ -121,8 +125,8 @@ pub lines-more : (ls : List ℕ) (p : Plan) (b : ℕ) (q : Plan) (d i : ℕ) (ns
     → New (less-size (wide p) (many q)) (count ns₁ + less-size (wide p) (many q) - 1) (less ns₁ ls p b q d i (many q)) ns₁ ns₂ → Less ls p b q d (i + 1) ns ns₂
 lines-more ls p b q d i ns ns₁ ns₂ a l m w =
     added-more (last-of (count ns) (less-size (wide p) (many q))) (λ z. less ns ls p b q d z (many q)) (less-size (wide p) (many q)) i _ _ ns ns₁ ns₂ a w
-      (last-is (count ns) (less-size (wide p) (many q)) i (count ns₁) (a .more))
-      (rid-same (many q) (wide p) (cell ls p i) _ _ (cell ls q) _ _ (λ j h. grown-cond ns ns₁ (a .grown) (place ls q d j) (m j h)) (grown-cond ns ns₁ (a .grown) (place ls p b i) l))
+    (last-is (count ns) (less-size (wide p) (many q)) i (count ns₁) (a .more))
+    (rid-same (many q) (wide p) (cell ls p i) _ _ (cell ls q) _ _ (λ j h. grown-cond ns ns₁ (a .grown) (place ls q d j) (m j h)) (grown-cond ns ns₁ (a .grown) (place ls p b i) l))
 
 pub row : (i n s : ℕ) → i < n → i * s + s ≤ n * s
 row i n s l = omega (arith, mul-le-mul-right {m = suc i} {n = n} s (omega arith), suc-mul i s)

@@ -38,7 +38,7 @@ pub tab-union : {X : Type 0} (n m : ℕ) (f g : ℕ → X) → tab n f ++ tab m 
 tab-union n m f g = sym (tab-add n m (λ i. if (ltb i n) (f i) (g (i - n)))
     ∙ (ap (λ t. t ++ tab m (λ i. if (ltb (n + i) n) (f (n + i)) (g (n + i - n)))) (tab-same n (λ i. if (ltb i n) (f i) (g (i - n))) f (λ i l. rw (lt-ltb i n l) refl))
     ∙ ap (λ t. tab n f ++ t) (tab-same m (λ i. if (ltb (n + i) n) (f (n + i)) (g (n + i - n))) g
-        (λ i l. let a : n ≤ n + i = omega arith in let e : n + i - n ≡ i = omega arith in rw (le-ltb (n + i) n a, e) refl))))
+    (λ i l. let a : n ≤ n + i = omega arith in let e : n + i - n ≡ i = omega arith in rw (le-ltb (n + i) n a, e) refl))))
 
 -- m for each of n
 pub tab-pairs : {X : Type 0} (n m : ℕ) (h : ℕ → ℕ → X) → 0 < m → tab m (h 0) ++ tab (n * m) (λ i. h (suc (i / m)) (i % m)) ≡ tab (suc n * m) (λ i. h (i / m) (i % m))
@@ -47,8 +47,8 @@ tab-pairs n m h z =
     rw e (sym (tab-add m (n * m) (λ i. h (i / m) (i % m))
     ∙ (ap (λ t. t ++ tab (n * m) (λ i. h ((m + i) / m) ((m + i) % m))) (tab-same m (λ i. h (i / m) (i % m)) (h 0) (λ i l. rw (div-eq-of-lt l, mod-eq-of-lt l) refl))
     ∙ ap (λ t. tab m (h 0) ++ t) (tab-same (n * m) (λ i. h ((m + i) / m) ((m + i) % m)) (λ i. h (suc (i / m)) (i % m))
-        (λ i l. let a : m + i ≡ i + 1 * m = omega arith in let p : (i + 1 * m) / m ≡ i / m + 1 = add-mul-div-right i 1 {z = m} z in let q : i / m + 1 ≡ suc (i / m) = omega arith in
-            rw (a, p, q, add-mul-mod-self-right i 1 m) refl)))))
+    (λ i l. let a : m + i ≡ i + 1 * m = omega arith in let p : (i + 1 * m) / m ≡ i / m + 1 = add-mul-div-right i 1 {z = m} z in let q : i / m + 1 ≡ suc (i / m) = omega arith in
+    rw (a, p, q, add-mul-mod-self-right i 1 m) refl)))))
 
 -- a list by its places
 pub as-tab : {X : Type 0} (xs : List X) (d : X) → xs ≡ tab (length xs) (λ i. getD xs i d)

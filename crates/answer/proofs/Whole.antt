@@ -33,14 +33,14 @@ says-grown ns ns₁ ls c (columns cs p) i f m g l = says-grown ns ns₁ ls c p i
 says-grown ns ns₁ ls c (join p q) i f m g l =
     let h = pair-in i (many p) (many q) m in
     rw (says-grown ns ns₁ ls c p (i / many q) (f .0) (h .0) g l, says-grown ns ns₁ ls c q (i % many q) (f .1) (h .1) g l) refl
-says-grown ns ns₁ ls c (union p q) i f m g l = elim (cases-lt i (many p))
-  [ inl k ↦ rw (lt-ltb _ _ k) (says-grown ns ns₁ ls c p i (f .1) k g l)
-  | inr k ↦ rw (le-ltb _ _ k) (says-grown ns ns₁ ls c q (i - many p) (f .2) (omega arith) g l) ]
+says-grown ns ns₁ ls c (union p q) i f m g l = elim (cases-lt i (many p)) [
+  | inl k ↦ rw (lt-ltb _ _ k) (says-grown ns ns₁ ls c p i (f .1) k g l)
+  | inr k ↦ rw (le-ltb _ _ k) (says-grown ns ns₁ ls c q (i - many p) (f .2) (omega arith) g l)
+]
 says-grown ns ns₁ ls c (without p q) i f m g l =
     rid-same (many q) (wide p) (cell ls p i) (says ns₁ ls q) (says ns ls q) (cell ls q) _ _ (λ j k. says-grown ns ns₁ ls c q j (f .2) k g l) (says-grown ns ns₁ ls c p i (f .1) m g l)
 
 module _ (ls : List ℕ) (c : ℕ) (ns : List ℕ) where
-
   pub laid-rows : (at n w : ℕ) → Fits ls c (list at n w) → c ≤ count ns → 1 + 5 * count ns ≤ length ns → Laid ls (list at n w) ns ns
   unfolding size place says many Fits
   laid-rows at n w f b l = record { grown = grown-self ns l; more = omega arith; within = λ i m. omega (arith, f .stand i m); is = λ i m. refl }
@@ -53,13 +53,13 @@ module _ (ls : List ℕ) (c : ℕ) (ns : List ℕ) where
       → Added (last-of (count ns₁) (3)) (λ i. both (now-at ns₁ ls p (count ns) i) (tests t (cell ls p i))) (3) (many p) ns₁ ns₂ → Laid ls (keep t p) ns ns₂
   unfolding size place says many
   laid-keep t p ns₁ ns₂ a k = record {
-      grown = grown-trans ns ns₁ ns₂ (a .grown) (k .grown);
-      more = omega (arith, a .more, k .more);
-      within = λ i m. subst (λ z. z + i * 3 + 3 - 1 < count ns₂) (a .more) (k .within i m);
-      is = λ i m. subst (λ z. cond-at ns₂ (z + i * 3 + 3 - 1) ≡ both (says ns ls p i) (tests t (cell ls p i))) (a .more) (k .is i m ∙ rw (a .is i m) refl) }
+    grown = grown-trans ns ns₁ ns₂ (a .grown) (k .grown);
+    more = omega (arith, a .more, k .more);
+    within = λ i m. subst (λ z. z + i * 3 + 3 - 1 < count ns₂) (a .more) (k .within i m);
+    is = λ i m. subst (λ z. cond-at ns₂ (z + i * 3 + 3 - 1) ≡ both (says ns ls p i) (tests t (cell ls p i))) (a .more) (k .is i m ∙ rw (a .is i m) refl);
+  }
 
   module _ (p q : Plan) (ns₁ ns₂ : List ℕ) (low : c ≤ count ns) (f : Fits ls c q) (a : Laid ls p ns ns₁) (b : Laid ls q ns₁ ns₂) where
-
     -- the lines of the first and of the second, as they stand behind both
     first-is : (i : ℕ) → i < many p → now-at ns₂ ls p (count ns) i ≡ says ns ls p i
     first-is i m = grown-cond ns₁ ns₂ (b .grown) (place ls p (count ns) i) (a .within i m) ∙ a .is i m
@@ -73,43 +73,49 @@ module _ (ls : List ℕ) (c : ℕ) (ns : List ℕ) where
     pub laid-union : Laid ls (union p q) ns ns₂
     unfolding size place says many
     laid-union = record {
-        grown = grown-trans ns ns₁ ns₂ (a .grown) (b .grown);
-        more = omega (arith, counts);
-        within = λ i m. elim (cases-lt i (many p))
-          [ inl l ↦ rw (lt-ltb _ _ l) (omega (arith, a .within i l, b .grown .more))
-          | inr l ↦ rw (le-ltb _ _ l) (subst (λ z. place ls q z (i - many p) < count ns₂) (a .more) (b .within (i - many p) (omega arith))) ];
-        is = λ i m. elim (cases-lt i (many p))
-          [ inl l ↦ rw (lt-ltb _ _ l) (first-is i l)
-          | inr l ↦ rw (le-ltb _ _ l) (subst (λ z. cond-at ns₂ (place ls q z (i - many p)) ≡ says ns ls q (i - many p)) (a .more) (second-is (i - many p) (omega arith))) ] }
+      grown = grown-trans ns ns₁ ns₂ (a .grown) (b .grown);
+      more = omega (arith, counts);
+      within = λ i m. elim (cases-lt i (many p)) [
+        | inl l ↦ rw (lt-ltb _ _ l) (omega (arith, a .within i l, b .grown .more))
+        | inr l ↦ rw (le-ltb _ _ l) (subst (λ z. place ls q z (i - many p) < count ns₂) (a .more) (b .within (i - many p) (omega arith)))
+      ];
+      is = λ i m. elim (cases-lt i (many p)) [
+        | inl l ↦ rw (lt-ltb _ _ l) (first-is i l)
+        | inr l ↦ rw (le-ltb _ _ l) (subst (λ z. cond-at ns₂ (place ls q z (i - many p)) ≡ says ns ls q (i - many p)) (a .more) (second-is (i - many p) (omega arith)))
+      ];
+    }
 
     pub laid-join : (ns₃ : List ℕ)
         → Added (λ i. count ns₂ + i) (λ i. both (now-at ns₂ ls p (count ns) (i / many q)) (now-at ns₂ ls q (count ns₁) (i % many q))) 1 (many p * many q) ns₂ ns₃ → Laid ls (join p q) ns ns₃
     unfolding size place says many
     laid-join ns₃ k = record {
-        grown = grown-trans ns ns₂ ns₃ (grown-trans ns ns₁ ns₂ (a .grown) (b .grown)) (k .grown);
-        more = omega (arith, counts, k .more);
-        within = λ i m. subst (λ z. z + i < count ns₃) counts (k .within i m);
-        is = λ i m. let g = pair-in i (many p) (many q) m in
-            subst (λ z. cond-at ns₃ (z + i) ≡ both (says ns ls p (i / many q)) (says ns ls q (i % many q))) counts
-              (k .is i m ∙ rw (first-is (i / many q) (g .0), second-is (i % many q) (g .1)) refl) }
+      grown = grown-trans ns ns₂ ns₃ (grown-trans ns ns₁ ns₂ (a .grown) (b .grown)) (k .grown);
+      more = omega (arith, counts, k .more);
+      within = λ i m. subst (λ z. z + i < count ns₃) counts (k .within i m);
+      is = λ i m. let g = pair-in i (many p) (many q) m in
+          subst (λ z. cond-at ns₃ (z + i) ≡ both (says ns ls p (i / many q)) (says ns ls q (i % many q))) counts
+          (k .is i m ∙ rw (first-is (i / many q) (g .0), second-is (i % many q) (g .1)) refl);
+    }
 
     pub laid-none : many q ≡ 0 → Laid ls (without p q) ns ns₂
     unfolding size place says many rid
     laid-none z = record {
-        grown = grown-trans ns ns₁ ns₂ (a .grown) (b .grown);
-        more = rw (z, zero-mul (2 * wide p + 3), mul-zero (many p)) (omega (arith, counts));
-        within = λ i m. rw z (omega (arith, a .within i m, b .grown .more));
-        is = λ i m. rw z (first-is i m) }
+      grown = grown-trans ns ns₁ ns₂ (a .grown) (b .grown);
+      more = rw (z, zero-mul (2 * wide p + 3), mul-zero (many p)) (omega (arith, counts));
+      within = λ i m. rw z (omega (arith, a .within i m, b .grown .more));
+      is = λ i m. rw z (first-is i m);
+    }
 
     pub laid-less : (ns₃ : List ℕ) → (many q ≡ 0 → ⊥)
         → Added (last-of (count ns₂) (less-size (wide p) (many q))) (λ i. less ns₂ ls p (count ns) q (count ns₁) i (many q)) (less-size (wide p) (many q)) (many p) ns₂ ns₃ → Laid ls (without p q) ns ns₃
     unfolding size place says many
     laid-less ns₃ z k = record {
-        grown = grown-trans ns ns₂ ns₃ (grown-trans ns ns₁ ns₂ (a .grown) (b .grown)) (k .grown);
-        more = omega (arith, counts, k .more);
-        within = λ i m. rw (ne-eqb (many q) 0 z) (subst (λ t. t + i * less-size (wide p) (many q) + less-size (wide p) (many q) - 1 < count ns₃) counts (k .within i m));
-        is = λ i m. rw (ne-eqb (many q) 0 z) (subst (λ t. cond-at ns₃ (t + i * less-size (wide p) (many q) + less-size (wide p) (many q) - 1) ≡ rid (many q) (wide p) (cell ls p i) (says ns ls q) (cell ls q) (says ns ls p i)) counts
-            (k .is i m ∙ rid-same (many q) (wide p) (cell ls p i) _ _ (cell ls q) _ _ (λ j l. second-is j l) (first-is i m))) }
+      grown = grown-trans ns ns₂ ns₃ (grown-trans ns ns₁ ns₂ (a .grown) (b .grown)) (k .grown);
+      more = omega (arith, counts, k .more);
+      within = λ i m. rw (ne-eqb (many q) 0 z) (subst (λ t. t + i * less-size (wide p) (many q) + less-size (wide p) (many q) - 1 < count ns₃) counts (k .within i m));
+      is = λ i m. rw (ne-eqb (many q) 0 z) (subst (λ t. cond-at ns₃ (t + i * less-size (wide p) (many q) + less-size (wide p) (many q) - 1) ≡ rid (many q) (wide p) (cell ls p i) (says ns ls q) (cell ls q) (says ns ls p i)) counts
+          (k .is i m ∙ rid-same (many q) (wide p) (cell ls p i) _ _ (cell ls q) _ _ (λ j l. second-is j l) (first-is i m)));
+    }
 
 -- the question below can be built on
 pub laid-ready : (ls : List ℕ) (c : ℕ) (p : Plan) (ns ns₁ : List ℕ) (t : ℕ) → Fits ls c p → Laid ls p ns ns₁ → count ns + size p ≤ 1000000 → count ns₁ ≤ t → Ready ls c p (count ns) t

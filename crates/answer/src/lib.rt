@@ -7,6 +7,9 @@ ghost use Rattle.answer.specs.Numbers.{Same-number};
 ghost use Rattle.answer.specs.Baptisms.{Table, False-answers};
 use condition::Refusal;
 
+mod places;
+mod side;
+
 // What asking replies.
 #[derive(Clone, Copy)]
 pub enum Reply {

@@ -13,7 +13,6 @@ pub use asking::table;
 pub use asking::united;
 
 mod asking;
-
 mod question;
 mod reading;
 
