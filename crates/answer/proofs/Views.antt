@@ -202,3 +202,11 @@ node-at line ls k e = rw (e, getD-drop k ls 0 0, add-zero k) refl
 
 pub cell-at-line : (line ls : List ℕ) (k a : ℕ) → line ≡ drop k ls → cell-in (getD line (1 + 2 * a) 0) (getD line (2 + 2 * a) 0) ≡ cell-from ls k a
 cell-at-line line ls k a e = rw (e, getD-drop k ls (1 + 2 * a) 0, getD-drop k ls (2 + 2 * a) 0) refl
+
+-- a column of those that are kept
+pub column-in : (w : ℕ) (cs : List ℕ) (a : ℕ) → a < length (take w cs) → (a < length cs) × (getD cs a 0 ≡ getD (take w cs) a 0)
+column-in w cs a l = let q : a < min w (length cs) = rw length-take at l in (omega arith, sym (getD-take w cs a 0 (omega arith)))
+
+-- a pair of lines, by its number
+pub pair-at : (i : ℕ) (p q : Plan) (m : ℕ) → i < many p * many q → m ≡ many q → (0 < m) × (i / m < many p) × (i % m < many q)
+pair-at i p q m l e = rw e (let h = pair-in i (many p) (many q) l in (omega arith, h .0, h .1))

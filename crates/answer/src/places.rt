@@ -56,6 +56,42 @@ pub(crate) fn place(asked: Asked, side: Side, i: u64) -> u64
     }
 }
 
+// The cell in column a of line i.
+pub(crate) fn cell(asked: Asked, side: Side, i: u64, a: usize) -> Cell
+    requires sound { ⌜ Sound (side .left) (now (asked .shapes)) (now (side .parts)) (now (asked .lists)) (asked .first) ⌝ }
+    requires line { ⌜ i < many (plan-of (side .left) (now (asked .shapes)) (now (side .parts))) ⌝ }
+    requires column { ⌜ a < wide (plan-of (side .left) (now (asked .shapes)) (now (side .parts))) ⌝ }
+    ensures { λ r. ⌜ cell-of r ≡ plan.cell (now (asked .entry .lists)) (plan-of (side .entry .left) (now (asked .entry .shapes)) (now (side .entry .parts))) i a ⌝ }
+{
+    if side.left == 0 {
+        return Cell::Number(0);
+    }
+    match side.part().sign {
+        Sign::Rows(t) => line_cell(asked.line(t, i), a),
+        Sign::Keep(_) => cell(asked, side.below(1, side.base), i, a),
+        Sign::Columns(columns) => cell(asked, side.below(1, side.base), i, columns[a]),
+        Sign::Join(second) => {
+            let p = side.below(1, side.base);
+            let q = side.below(second, side.base);
+            let width = p.part().width;
+            let lines = q.part().lines;
+            if a < width {
+                return cell(asked, p, i / lines, a);
+            }
+            cell(asked, q, i % lines, a - width)
+        }
+        Sign::Union(second) => {
+            let p = side.below(1, side.base);
+            let lines = p.part().lines;
+            if i < lines {
+                return cell(asked, p, i, a);
+            }
+            cell(asked, side.below(second, side.base), i - lines, a)
+        }
+        Sign::Without(_) => cell(asked, side.below(1, side.base), i, a),
+    }
+}
+
 // The last node of line i, where the nodes of the lines, s each, end at a place.
 fn last(end: u64, lines: u64, i: u64, s: u64) -> u64
     requires line { ⌜ (i < lines) × (1 ≤ s) ⌝ }

@@ -152,17 +152,11 @@ reads-bounded m ss small at xs low s next rest e =
     let l : n ≤ 16 = omega (arith, f .1, p) in
     let g : Fine s n = f .2 in
     let k : 2 ^ (6 * g .h) ≤ 2 ^ 48 = few (g .h) n (g .half) l in
-    let d : n ≡ next - at = omega (arith, f .1) in (
-      record {
-        ahead = omega (arith, f .1, g .half, g .some);
-        within = omega (arith, p);
-        lines = omega (arith, g .lines, k);
-        width = g .width;
-        cost = omega (arith, g .cost);
-        fine = rw d at g;
-      },
-      omega (arith, p),
-    )
+    let d : n ≡ next - at = omega (arith, f .1) in
+    (record {
+        ahead = omega (arith, f .1, g .half, g .some); within = omega (arith, p); lines = omega (arith, g .lines, k); width = g .width;
+        cost = omega (arith, g .cost); fine = rw d at g }
+    , omega (arith, p))
 
 -- the lines of two questions behind one sign
 pub pairs-bounded : (s t : Sized) (at i j : ℕ) → at < i → i < j → j ≤ 16 → Fine s (i - (at + 1)) → Fine t (j - i) → s .lines * t .lines ≤ 2 ^ 48

@@ -59,9 +59,9 @@ parted-same zero ss u ps qs p l h = absurd p
 parted-same (suc n) ss u ps qs p l h =
     let e : part-at qs 0 ≡ part-at ps 0 = h 0 (some-parts (part-at ps 0 .sign) u (λ i v. Parted n ss v (drop i ps)) (p .3)) in
     let c : Carried (part-at ps 0 .sign) (part-at ps 0 .width) u ss (λ i. sized-of n ss (drop i ps)) (λ i. sized-of n ss (drop i qs)) (λ i v. Parted n ss v (drop i qs)) =
-    carry (part-at ps 0 .width) u ss (λ i. sized-of n ss (drop i ps)) (λ i. sized-of n ss (drop i qs)) (λ i v. Parted n ss v (drop i ps)) (λ i v. Parted n ss v (drop i qs))
-    (λ i v m q. parted-same n ss v (drop i ps) (drop i qs) q (simp length-drop (omega arith)) (λ j k. part-drop qs i j ∙ (h (i + j) (omega arith) ∙ sym (part-drop ps i j))))
-    (part-at ps 0 .sign) (p .3) in
+            carry (part-at ps 0 .width) u ss (λ i. sized-of n ss (drop i ps)) (λ i. sized-of n ss (drop i qs)) (λ i v. Parted n ss v (drop i ps)) (λ i v. Parted n ss v (drop i qs))
+                (λ i v m q. parted-same n ss v (drop i ps) (drop i qs) q (simp length-drop (omega arith)) (λ j k. part-drop qs i j ∙ (h (i + j) (omega arith) ∙ sym (part-drop ps i j))))
+                (part-at ps 0 .sign) (p .3) in
     rw e ((l, rw (c .0) (p .1), c .1 (p .2), c .2), c .0)
 
 -- one sign, and what is read behind it
@@ -95,14 +95,10 @@ module _ (n : ℕ) (ss : List (ℕ × ℕ)) (at : ℕ) (mid : List Part) (p : Pa
   unfolding sized-of Parted
   laid xs before next s rest is ahead fits long kept numbers sizes inside needs =
       record {
-        question = s;
-        is = is;
-        ahead = ahead;
-        parts = rw written-first (simp (length-drop, length-set) (omega arith), rw sizes numbers, inside, needs);
-        sizes = rw written-first sizes;
-        long = length-set mid at p ∙ long;
-        kept = λ i h. getD-set-other mid at i p no-part (omega arith) ∙ kept i h;
-      }
+          question = s; is = is; ahead = ahead;
+          parts = rw written-first (simp (length-drop, length-set) (omega arith), rw sizes numbers, inside, needs);
+          sizes = rw written-first sizes; long = length-set mid at p ∙ long;
+          kept = λ i h. getD-set-other mid at i p no-part (omega arith) ∙ kept i h }
 
 parted-numbers : (n : ℕ) (ss : List (ℕ × ℕ)) (u : ℕ) (ps : List Part) → Parted n ss u ps → Numbers (part-at ps 0) (sized-of n ss ps)
 unfolding Parted
@@ -169,8 +165,8 @@ module _ (n : ℕ) (ss : List (ℕ × ℕ)) (at : ℕ) (xs : List ℕ) (six : 6 
   list-part t lines width before within e l shape =
       let one : at + 1 - at ≡ 1 = omega arith in
       laid n ss at before (record { sign = Rows t; lines = lines; width = width; cost = 0 }) within xs before (at + 1) (of-list t (getD ss t (0, 0))) (drop 6 xs)
-      (list-read t e l ∙ ap (λ (i : ℕ). read (of-list t (getD ss t (0, 0))) i (drop 6 xs)) (omega arith)) (omega arith) (omega arith) refl (λ i h. refl)
-      (rw shape (record { lines = refl; width = refl; cost = refl })) refl l one
+          (list-read t e l ∙ ap (λ (i : ℕ). read (of-list t (getD ss t (0, 0))) i (drop 6 xs)) (omega arith)) (omega arith) (omega arith) refl (λ i h. refl)
+          (rw shape (record { lines = refl; width = refl; cost = refl })) refl l one
 
   -- a sign with one question behind it
   module _ (before mid : List Part) (next : ℕ) (rest : List ℕ) (long : at < length before) (r : Reads n ss (at + 1) (drop 6 xs) before mid next rest) where
@@ -202,9 +198,9 @@ module _ (n : ℕ) (ss : List (ℕ × ℕ)) (at : ℕ) (xs : List ℕ) (six : 6 
     test-part t e fits cost c =
         let p : Part = record { sign = Keep t; lines = part-at mid (at + 1) .lines; width = part-at mid (at + 1) .width; cost = cost } in
         laid n ss at mid p within xs before next (of-test (test-of t) (r .question)) rest
-        (step (a-test (test-of t)) e ∙ rw (inner, fits) refl) (omega (arith, r .ahead)) ends (r .long) (λ i h. r .kept i (wider i h))
-        (record { lines = sub-numbers .lines; width = sub-numbers .width; cost = c }) (ap (of-test (test-of t)) (sub-sized p))
-        (rw (sub-sized p) fits) (omega (arith, r .ahead), sub-parted p)
+            (step (a-test (test-of t)) e ∙ rw (inner, fits) refl) (omega (arith, r .ahead)) ends (r .long) (λ i h. r .kept i (wider i h))
+            (record { lines = sub-numbers .lines; width = sub-numbers .width; cost = c }) (ap (of-test (test-of t)) (sub-sized p))
+            (rw (sub-sized p) fits) (omega (arith, r .ahead), sub-parted p)
 
     pub test-bad : (t : Test) → sign ≡ a-test (test-of t) → test-fits (test-of t) (r .question .width) ≡ false → reads (suc n) ss at xs ≡ bad at
     test-bad t e off = step (a-test (test-of t)) e ∙ rw (inner, off) refl
@@ -214,9 +210,9 @@ module _ (n : ℕ) (ss : List (ℕ × ℕ)) (at : ℕ) (xs : List ℕ) (six : 6 
     columns-part k cs ps e four same low high below =
         let p : Part = record { sign = Columns cs; lines = part-at mid (at + 1) .lines; width = k; cost = part-at mid (at + 1) .cost } in
         laid n ss at mid p within xs before next (of-columns k ps (r .question)) rest
-        (step (some-columns k ps) e ∙ rw (inner, le-leb 1 k low, le-leb k 4 high, below) refl) (omega (arith, r .ahead)) ends (r .long) (λ i h. r .kept i (wider i h))
-        (record { lines = sub-numbers .lines; width = refl; cost = sub-numbers .cost }) (rw (sub-sized p, same) refl)
-        (rw (sub-sized p, same) (four, low, high, below)) (omega (arith, r .ahead), sub-parted p)
+            (step (some-columns k ps) e ∙ rw (inner, le-leb 1 k low, le-leb k 4 high, below) refl) (omega (arith, r .ahead)) ends (r .long) (λ i h. r .kept i (wider i h))
+            (record { lines = sub-numbers .lines; width = refl; cost = sub-numbers .cost }) (rw (sub-sized p, same) refl)
+            (rw (sub-sized p, same) (four, low, high, below)) (omega (arith, r .ahead), sub-parted p)
 
     pub columns-bad : (k : ℕ) (ps : List ℕ) → sign ≡ some-columns k ps → (leb 1 k && (leb k 4 && all-below (r .question .width) ps)) ≡ false → reads (suc n) ss at xs ≡ bad at
     columns-bad k ps e off = step (some-columns k ps) e ∙ rw (inner, off) refl
@@ -233,7 +229,7 @@ module _ (n : ℕ) (ss : List (ℕ × ℕ)) (at : ℕ) (xs : List ℕ) (six : 6 
       first-after : Parted n ss (next - (at + 1)) (drop (at + 1) after) × (sized-of n ss (drop (at + 1) after) ≡ sized-of n ss (drop (at + 1) mid))
       first-after =
           parted-same n ss (next - (at + 1)) (drop (at + 1) mid) (drop (at + 1) after) (r .parts) (simp length-drop (omega (arith, q .long, ends)))
-          (λ i l. part-drop after (at + 1) i ∙ (q .kept (at + 1 + i) (inl (omega arith)) ∙ sym (part-drop mid (at + 1) i)))
+              (λ i l. part-drop after (at + 1) i ∙ (q .kept (at + 1 + i) (inl (omega arith)) ∙ sym (part-drop mid (at + 1) i)))
 
       pub first-numbers : Numbers (part-at after (at + 1)) (r .question)
       first-numbers = let a : at + 1 < next = r .ahead in rw (q .kept (at + 1) (inl a)) sub-numbers
@@ -264,7 +260,6 @@ module _ (n : ℕ) (ss : List (ℕ × ℕ)) (at : ℕ) (xs : List ℕ) (six : 6 
           outer : (i < at) ⊎ (end ≤ i) → (i < next) ⊎ (end ≤ i)
           outer (inl l) = inl (omega (arith, r .ahead))
           outer (inr l) = inr l
-
           inner-side : (i < at) ⊎ (end ≤ i) → (i < at + 1) ⊎ (next ≤ i)
           inner-side (inl l) = inl (omega arith)
           inner-side (inr l) = inr (omega (arith, q .ahead))
@@ -284,21 +279,21 @@ module _ (n : ℕ) (ss : List (ℕ × ℕ)) (at : ℕ) (xs : List ℕ) (six : 6 
       join-part lines width cost e fits numbers =
           let p : Part = record { sign = Join (next - at); lines = lines; width = width; cost = cost } in
           pair p (of-join (r .question) (q .question)) (step a-join e ∙ rw (inner, q .is, le-leb (r .question .width + q .question .width) 8 fits) refl) numbers
-          (rw (one-sized p, two-sized p) refl) (rw (one-sized p, two-sized p) fits) (omega (arith, r .ahead), omega (arith, r .ahead, q .ahead), one-parted p, two-parted p)
+              (rw (one-sized p, two-sized p) refl) (rw (one-sized p, two-sized p) fits) (omega (arith, r .ahead), omega (arith, r .ahead, q .ahead), one-parted p, two-parted p)
 
       pub union-part : (lines width cost : ℕ) → sign ≡ a-union → r .question .width ≡ q .question .width → Numbers (record { sign = Union (next - at); lines = lines; width = width; cost = cost }) (of-union (r .question) (q .question)) →
           Reads (suc n) ss at xs before (set after at (record { sign = Union (next - at); lines = lines; width = width; cost = cost })) end last
       union-part lines width cost e same numbers =
           let p : Part = record { sign = Union (next - at); lines = lines; width = width; cost = cost } in
           pair p (of-union (r .question) (q .question)) (step a-union e ∙ rw (inner, q .is, eq-eqb (r .question .width) (q .question .width) same) refl) numbers
-          (rw (one-sized p, two-sized p) refl) (rw (one-sized p, two-sized p) same) (omega (arith, r .ahead), omega (arith, r .ahead, q .ahead), one-parted p, two-parted p)
+              (rw (one-sized p, two-sized p) refl) (rw (one-sized p, two-sized p) same) (omega (arith, r .ahead), omega (arith, r .ahead, q .ahead), one-parted p, two-parted p)
 
       pub without-part : (lines width cost : ℕ) → sign ≡ a-without → r .question .width ≡ q .question .width → Numbers (record { sign = Without (next - at); lines = lines; width = width; cost = cost }) (of-without (r .question) (q .question)) →
           Reads (suc n) ss at xs before (set after at (record { sign = Without (next - at); lines = lines; width = width; cost = cost })) end last
       without-part lines width cost e same numbers =
           let p : Part = record { sign = Without (next - at); lines = lines; width = width; cost = cost } in
           pair p (of-without (r .question) (q .question)) (step a-without e ∙ rw (inner, q .is, eq-eqb (r .question .width) (q .question .width) same) refl) numbers
-          (rw (one-sized p, two-sized p) refl) (rw (one-sized p, two-sized p) same) (omega (arith, r .ahead), omega (arith, r .ahead, q .ahead), one-parted p, two-parted p)
+              (rw (one-sized p, two-sized p) refl) (rw (one-sized p, two-sized p) same) (omega (arith, r .ahead), omega (arith, r .ahead, q .ahead), one-parted p, two-parted p)
 
       pub join-bad : sign ≡ a-join → 8 < r .question .width + q .question .width → reads (suc n) ss at xs ≡ bad at
       join-bad e off = step a-join e ∙ rw (inner, q .is, lt-leb (r .question .width + q .question .width) 8 off) refl
@@ -325,7 +320,6 @@ module _ (n : ℕ) (ss : List (ℕ × ℕ)) (at : ℕ) (xs : List ℕ) (six : 6 
     where
       behind : reads n ss (suc at) (drop 6 xs) ≡ bad off
       behind = let z : suc at ≡ at + 1 = omega arith in ap (λ (i : ℕ). reads n ss i (drop 6 xs)) z ∙ b
-
       go : (k : ReadingSign) → Wants k → by-sign k ss at (drop 6 xs) (λ i ys. reads n ss i ys) ≡ bad off
       go (a-list t) h = absurd h
       go (a-test t) h = rw behind refl

@@ -17,7 +17,7 @@ length-shapes (suc k) xs = ap suc (length-shapes k (drop (list-size xs) xs))
 pub pairs-all : (lists : List ℕ) (ss : Shapes) → All-shaped lists ss → pairs-of ss ≡ shapes lists
 pairs-all lists ss a =
     sym (fill-by-all (λ t. (shape-of ss t .lines, shape-of ss t .width)) (shapes lists) (ss .count) (0, 0)
-    (length-shapes (getD lists 0 0) (drop 2 lists) ∙ sym (a .count)) (λ k l. a .each k l .is))
+        (length-shapes (getD lists 0 0) (drop 2 lists) ∙ sym (a .count)) (λ k l. a .each k l .is))
 
 pub few-all : (lists : List ℕ) (ss : Shapes) → All-shaped lists ss → Few ss
 few-all lists ss a = record { count = a .few; lines = λ t l. a .each t l .few; width = λ t l. a .each t l .narrow }

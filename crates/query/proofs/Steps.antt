@@ -91,13 +91,13 @@ module _ (left : ℕ) (ss : List (ℕ × ℕ)) (at : ℕ) (xs : List ℕ) (some 
         Reads left ss at xs before (set mid at (one-part one (part-at mid (at + 1)))) next rest
     single (Test t) e on =
         back before _ next rest (test-part (left - 1) ss at xs six before mid next rest long r t e (rw (numbers .width) at (sym on)) (part-at mid (at + 1) .cost + 3 * part-at mid (at + 1) .lines)
-        (cc (numbers .cost, numbers .lines)))
+            (cc (numbers .cost, numbers .lines)))
     single (Cut k cs) e on =
         let f : (leb 1 k ≡ true) × ((leb k 4 && all-below (part-at mid (at + 1) .width) (take k cs)) ≡ true) = and-parts (leb 1 k) (leb k 4 && all-below (part-at mid (at + 1) .width) (take k cs)) (sym on) in
         let g : (leb k 4 ≡ true) × (all-below (part-at mid (at + 1) .width) (take k cs) ≡ true) = and-parts (leb k 4) (all-below (part-at mid (at + 1) .width) (take k cs)) (f .1) in
         let l : k ≤ 4 = leb-true k 4 (g .0) in
         back before _ next rest (columns-part (left - 1) ss at xs six before mid next rest long r k cs (e .1 .0) (e .1 .1) (e .0) (e .1 .2 l) (leb-true 1 k (f .0)) l
-        (rw (numbers .width, e .1 .2 l) at (g .1)))
+            (rw (numbers .width, e .1 .2 l) at (g .1)))
 
     -- two questions behind a sign
     pub double-second-bad : (pair : Pair) → sign ≡ pair-of pair → (off : ℕ) → reads (left - 1) ss next rest ≡ bad off → reads left ss at xs ≡ bad off
@@ -115,28 +115,28 @@ module _ (left : ℕ) (ss : List (ℕ × ℕ)) (at : ℕ) (xs : List ℕ) (some 
       pub double-off : (pair : Pair) → sign ≡ pair-of pair → false ≡ pair-fits pair (part-at after (at + 1) .width) (part-at after next .width) → reads left ss at xs ≡ bad at
       double-off Joined e off =
           back-bad at (join-bad (left - 1) ss at xs six before mid next rest long r after end last q e
-          (omega (arith, leb-false (part-at after (at + 1) .width + part-at after next .width) 8 (sym off), one .width, two .width)))
+              (omega (arith, leb-false (part-at after (at + 1) .width + part-at after next .width) 8 (sym off), one .width, two .width)))
       double-off United e off =
           back-bad at (union-bad (left - 1) ss at xs six before mid next rest long r after end last q e
-          (λ p. eqb-false (part-at after (at + 1) .width) (part-at after next .width) (sym off) (one .width ∙ (p ∙ sym (two .width)))))
+              (λ p. eqb-false (part-at after (at + 1) .width) (part-at after next .width) (sym off) (one .width ∙ (p ∙ sym (two .width)))))
       double-off Less e off =
           back-bad at (without-bad (left - 1) ss at xs six before mid next rest long r after end last q e
-          (λ p. eqb-false (part-at after (at + 1) .width) (part-at after next .width) (sym off) (one .width ∙ (p ∙ sym (two .width)))))
+              (λ p. eqb-false (part-at after (at + 1) .width) (part-at after next .width) (sym off) (one .width ∙ (p ∙ sym (two .width)))))
 
       pub double : (pair : Pair) → sign ≡ pair-of pair → true ≡ pair-fits pair (part-at after (at + 1) .width) (part-at after next .width) →
           Reads left ss at xs before (set after at (pair-part pair (next - at) (part-at after (at + 1)) (part-at after next))) end last
       double Joined e on =
           back before _ end last (join-part (left - 1) ss at xs six before mid next rest long r after end last q _ _ _ e
-          (omega (arith, leb-true (part-at after (at + 1) .width + part-at after next .width) 8 (sym on), one .width, two .width))
-          (record { lines = cc (one .lines, two .lines); width = cc (one .width, two .width); cost = cc (one .lines, two .lines, one .cost, two .cost) }))
+              (omega (arith, leb-true (part-at after (at + 1) .width + part-at after next .width) 8 (sym on), one .width, two .width))
+              (record { lines = cc (one .lines, two .lines); width = cc (one .width, two .width); cost = cc (one .lines, two .lines, one .cost, two .cost) }))
       double United e on =
           back before _ end last (union-part (left - 1) ss at xs six before mid next rest long r after end last q _ _ _ e
-          (sym (one .width) ∙ (eqb-true (part-at after (at + 1) .width) (part-at after next .width) (sym on) ∙ two .width))
-          (record { lines = cc (one .lines, two .lines); width = one .width; cost = cc (one .cost, two .cost) }))
+              (sym (one .width) ∙ (eqb-true (part-at after (at + 1) .width) (part-at after next .width) (sym on) ∙ two .width))
+              (record { lines = cc (one .lines, two .lines); width = one .width; cost = cc (one .cost, two .cost) }))
       double Less e on =
           back before _ end last (without-part (left - 1) ss at xs six before mid next rest long r after end last q _ _ _ e
-          (sym (one .width) ∙ (eqb-true (part-at after (at + 1) .width) (part-at after next .width) (sym on) ∙ two .width))
-          (record { lines = one .lines; width = one .width; cost = cc (one .lines, two .lines, one .cost, two .cost, one .width) }))
+              (sym (one .width) ∙ (eqb-true (part-at after (at + 1) .width) (part-at after next .width) (sym on) ∙ two .width))
+              (record { lines = one .lines; width = one .width; cost = cc (one .lines, two .lines, one .cost, two .cost, one .width) }))
 
 -- how large what was read is
 pub record Room (p : Part) : Type 0 where
@@ -168,9 +168,6 @@ module _ (n : ℕ) (ss : List (ℕ × ℕ)) (small : Small ss) (at : ℕ) (xs : 
         let a : Numbers (part-at after (at + 1)) (r .question) = first-numbers n ss at xs six before mid next rest long r after end last q in
         let b : Numbers (part-at after next) (q .question) = second-numbers n ss at xs six before mid next rest long r after end last q in
         let p : r .question .lines * q .question .lines ≤ 2 ^ 48 =
-        pairs-bounded (r .question) (q .question) at next end (omega (arith, r .ahead)) (q .ahead) (second-bounded .0 .within) (first-bounded .0 .fine) (second-bounded .0 .fine) in (
-          room (part-at after (at + 1)) (r .question) (at + 1) next a (first-bounded .0),
-          room (part-at after next) (q .question) next end b (second-bounded .0),
-          rw (a .lines, b .lines) p,
-          omega (arith, q .ahead, second-bounded .0 .within),
-        )
+                pairs-bounded (r .question) (q .question) at next end (omega (arith, r .ahead)) (q .ahead) (second-bounded .0 .within) (first-bounded .0 .fine) (second-bounded .0 .fine) in
+        (room (part-at after (at + 1)) (r .question) (at + 1) next a (first-bounded .0), room (part-at after next) (q .question) next end b (second-bounded .0),
+         rw (a .lines, b .lines) p, omega (arith, q .ahead, second-bounded .0 .within))

@@ -46,9 +46,5 @@ module _ (ss : List (ℕ × ℕ)) (xs signs : List ℕ) (before after : List Par
       let e : sized (reads 16 ss 0 xs) ≡ q .question = ap sized (q .is) in
       let n : next - 0 ≡ next = omega arith in
       record {
-        long = long;
-        parts = rw n at (q .parts);
-        sizes = q .sizes ∙ sym e;
-        lines = rw e (omega (arith, front .lines));
-        cost = rw e (omega (arith, front .cost));
-      }
+          long = long; parts = rw n at (q .parts); sizes = q .sizes ∙ sym e;
+          lines = rw e (omega (arith, front .lines)); cost = rw e (omega (arith, front .cost)) }

@@ -13,6 +13,7 @@ pub use asking::table;
 pub use asking::united;
 
 mod asking;
+
 mod question;
 mod reading;
 

@@ -48,10 +48,7 @@ fn token_at(signs: &[u64]) -> Option<Token>
         2 => Some(Token::Single(One::Test(Test::Differ(a, b)))),
         3 => Some(Token::Single(One::Test(Test::Is(a, signs[2])))),
         4 => Some(Token::Single(One::Test(Test::IsNot(a, signs[2])))),
-        5 => Some(Token::Single(One::Cut(
-            a,
-            [b, signs[3] as usize, signs[4] as usize, signs[5] as usize],
-        ))),
+        5 => Some(Token::Single(One::Cut(a, [b, signs[3] as usize, signs[4] as usize, signs[5] as usize]))),
         6 => Some(Token::Double(Pair::Joined)),
         7 => Some(Token::Double(Pair::United)),
         8 => Some(Token::Double(Pair::Less)),
@@ -68,13 +65,7 @@ pub(crate) struct Reading<'a> {
 
 // Reads the question at the front of the signs that are left into the parts from `at` on, at most `left` signs deep; or tells the
 // sign that can't be read.
-pub(crate) fn read<'a>(
-    signs: &'a [u64],
-    left: u64,
-    at: usize,
-    shapes: Shapes,
-    parts: &mut [Part],
-) -> Result<Reading<'a>, usize>
+pub(crate) fn read<'a>(signs: &'a [u64], left: u64, at: usize, shapes: Shapes, parts: &mut [Part]) -> Result<Reading<'a>, usize>
     requires long { ⌜ length (now parts) ≡ 16 ⌝ }
     requires few { ⌜ 6 * at + length (now signs) ≤ 96 ⌝ }
     requires shapes { ⌜ Few shapes ⌝ }

@@ -9,5 +9,5 @@ pub add-parts-in-Less-2 : need.add-parts-in-Less-2
 add-parts-in-Less-2 c =
     let w : 2 * part-at (c .args .parts .now) (c .args .at + 1) .width + 3 ≤ 19 = omega arith in
     let m : part-at (c .args .parts .now) (c .args .at + 1) .lines * part-at (c .args .parts .now) (c .args .second) .lines * (2 * part-at (c .args .parts .now) (c .args .at + 1) .width + 3) ≤ 2 ^ 48 * 19 =
-    mul-le _ _ (2 ^ 48) 19 (c .pre .lines .2) w in
+            mul-le _ _ (2 ^ 48) 19 (c .pre .lines .2) w in
     omega (arith, m)

@@ -24,6 +24,5 @@ returns-then-parts-gt65536 c = record { refusal = too-dear (pairs-of (c .args .s
 pub returns : need.returns
 returns c =
     record {
-      refusal = told-nothing (pairs-of (c .args .shapes)) (take 96 (c .args .signs .now)) (c .args .signs .now) _ (c .read .last .parts) (c .in-Ok .p .next) (c .in-Ok .p .rest .now) (rw (c .front .ensures) at (c .in-Ok .ensures tt)) (omega arith) (omega arith) (omega arith);
-      value = stands (pairs-of (c .args .shapes)) (take 96 (c .args .signs .now)) (c .args .signs .now) _ (c .read .last .parts) (c .in-Ok .p .next) (c .in-Ok .p .rest .now) (rw (c .front .ensures) at (c .in-Ok .ensures tt)) (omega arith) (c .in-Ok .ensures tt .long) (omega arith) (omega arith);
-    }
+        refusal = told-nothing (pairs-of (c .args .shapes)) (take 96 (c .args .signs .now)) (c .args .signs .now) _ (c .read .last .parts) (c .in-Ok .p .next) (c .in-Ok .p .rest .now) (rw (c .front .ensures) at (c .in-Ok .ensures tt)) (omega arith) (omega arith) (omega arith);
+        value = stands (pairs-of (c .args .shapes)) (take 96 (c .args .signs .now)) (c .args .signs .now) _ (c .read .last .parts) (c .in-Ok .p .next) (c .in-Ok .p .rest .now) (rw (c .front .ensures) at (c .in-Ok .ensures tt)) (omega arith) (c .in-Ok .ensures tt .long) (omega arith) (omega arith) }
