@@ -1,5 +1,6 @@
 -- The loops that lay nodes, turn by turn.
 use mathlib.Core.Path.{_≡_, refl, sym, _∙_, ap, subst}
+use mathlib.Core.Bool.{true}
 use mathlib.Core.List.{List}
 use mathlib.Core.Logic.{_⊎_, inl, inr}
 use Prim.Native.Nat.{ℕ, zero, suc, _+_, _-_, _*_, _/_, _%_, _≤_, _<_}
@@ -9,7 +10,7 @@ use native.Mathlib.Numerals.{add-one}
 use lib.ListN.{length}
 use Rattle.std.proofs.shelf.Tests.{cases-lt}
 use Rattle.condition.specs.Cond.{Cell, Cond, equal, not-so, both}
-use Rattle.condition.specs.Store.{count, cond-at, Grown}
+use Rattle.condition.specs.Store.{count, cond-at, has-name, comparison, Grown}
 use Rattle.condition.proofs.Growing.{grown-self, grown-cond, grown-trans}
 use Rattle.answer.specs.Plan.{Plan, many, wide, size, place, cell, less-size, rid, equals, Fits}
 use Rattle.answer.specs.Laid.{Based, Ready, New, Added, now-at, last-of, less, Joined, Less}
@@ -130,3 +131,7 @@ lines-more ls p b q d i ns ns₁ ns₂ a l m w =
 
 pub row : (i n s : ℕ) → i < n → i * s + s ≤ n * s
 row i n s l = omega (arith, mul-le-mul-right {m = suc i} {n = n} s (omega arith), suc-mul i s)
+
+-- cells with names are compared
+pub compared-is : (a b : Cell) → has-name a ≡ true → has-name b ≡ true → comparison a b ≡ equal a b
+compared-is a b p q = rw (p, q) refl

@@ -14,7 +14,7 @@ use Rattle.condition.proofs.Growing.{grown-self, grown-cond, grown-trans}
 use Rattle.list.specs.Layout.{line-size}
 use Rattle.query.specs.Ask.{Test}
 use Rattle.answer.specs.Plan.{Plan, list, keep, columns, join, union, without, many, wide, size, place, cell, says, tests, less-size, rid, Fits}
-use Rattle.answer.specs.Laid.{Based, Ready, New, Added, Laid, now-at, last-of, less}
+use Rattle.answer.specs.Laid.{Ready, Laid, Kept, Joined, Less, now-at}
 use Rattle.answer.proofs.Steps.{rid-same}
 
 some-lines : (i n m : ℕ) → i < n * m → 0 < m
@@ -49,15 +49,15 @@ module _ (ls : List ℕ) (c : ℕ) (ns : List ℕ) where
   unfolding size place says many
   laid-columns cs p ns₁ a = record { grown = a .grown; more = a .more; within = a .within; is = a .is }
 
-  pub laid-keep : (t : Test) (p : Plan) (ns₁ ns₂ : List ℕ) → Laid ls p ns ns₁
-      → Added (last-of (count ns₁) (3)) (λ i. both (now-at ns₁ ls p (count ns) i) (tests t (cell ls p i))) (3) (many p) ns₁ ns₂ → Laid ls (keep t p) ns ns₂
+  pub laid-keep : (t : Test) (p : Plan) (b : ℕ) (ns₁ ns₂ : List ℕ) → b ≡ count ns → Laid ls p ns ns₁ → Kept ls p b t (many p) ns₁ ns₂ → Laid ls (keep t p) ns ns₂
   unfolding size place says many
-  laid-keep t p ns₁ ns₂ a k = record {
-    grown = grown-trans ns ns₁ ns₂ (a .grown) (k .grown);
-    more = omega (arith, a .more, k .more);
-    within = λ i m. subst (λ z. z + i * 3 + 3 - 1 < count ns₂) (a .more) (k .within i m);
-    is = λ i m. subst (λ z. cond-at ns₂ (z + i * 3 + 3 - 1) ≡ both (says ns ls p i) (tests t (cell ls p i))) (a .more) (k .is i m ∙ rw (a .is i m) refl);
-  }
+  laid-keep t p b ns₁ ns₂ e a kept =
+      let k : Kept ls p (count ns) t (many p) ns₁ ns₂ = subst (λ z. Kept ls p z t (many p) ns₁ ns₂) e kept in
+      record {
+      grown = grown-trans ns ns₁ ns₂ (a .grown) (k .grown);
+      more = omega (arith, a .more, k .more);
+      within = λ i m. subst (λ z. z + i * 3 + 3 - 1 < count ns₂) (a .more) (k .within i m);
+      is = λ i m. subst (λ z. cond-at ns₂ (z + i * 3 + 3 - 1) ≡ both (says ns ls p i) (tests t (cell ls p i))) (a .more) (k .is i m ∙ rw (a .is i m) refl) }
 
   module _ (p q : Plan) (ns₁ ns₂ : List ℕ) (low : c ≤ count ns) (f : Fits ls c q) (a : Laid ls p ns ns₁) (b : Laid ls q ns₁ ns₂) where
     -- the lines of the first and of the second, as they stand behind both
@@ -85,10 +85,11 @@ module _ (ls : List ℕ) (c : ℕ) (ns : List ℕ) where
       ];
     }
 
-    pub laid-join : (ns₃ : List ℕ)
-        → Added (λ i. count ns₂ + i) (λ i. both (now-at ns₂ ls p (count ns) (i / many q)) (now-at ns₂ ls q (count ns₁) (i % many q))) 1 (many p * many q) ns₂ ns₃ → Laid ls (join p q) ns ns₃
+    pub laid-join : (x y : ℕ) (ns₃ : List ℕ) → x ≡ count ns → y ≡ count ns₁ → Joined ls p x q y (many p * many q) ns₂ ns₃ → Laid ls (join p q) ns ns₃
     unfolding size place says many
-    laid-join ns₃ k = record {
+    laid-join x y ns₃ ex ey joined =
+        let k : Joined ls p (count ns) q (count ns₁) (many p * many q) ns₂ ns₃ = subst (λ z. Joined ls p z q (count ns₁) (many p * many q) ns₂ ns₃) ex (subst (λ z. Joined ls p x q z (many p * many q) ns₂ ns₃) ey joined) in
+        record {
       grown = grown-trans ns ns₂ ns₃ (grown-trans ns ns₁ ns₂ (a .grown) (b .grown)) (k .grown);
       more = omega (arith, counts, k .more);
       within = λ i m. subst (λ z. z + i < count ns₃) counts (k .within i m);
@@ -106,10 +107,11 @@ module _ (ls : List ℕ) (c : ℕ) (ns : List ℕ) where
       is = λ i m. rw z (first-is i m);
     }
 
-    pub laid-less : (ns₃ : List ℕ) → (many q ≡ 0 → ⊥)
-        → Added (last-of (count ns₂) (less-size (wide p) (many q))) (λ i. less ns₂ ls p (count ns) q (count ns₁) i (many q)) (less-size (wide p) (many q)) (many p) ns₂ ns₃ → Laid ls (without p q) ns ns₃
+    pub laid-less : (x y : ℕ) (ns₃ : List ℕ) → x ≡ count ns → y ≡ count ns₁ → (many q ≡ 0 → ⊥) → Less ls p x q y (many p) ns₂ ns₃ → Laid ls (without p q) ns ns₃
     unfolding size place says many
-    laid-less ns₃ z k = record {
+    laid-less x y ns₃ ex ey z lessened =
+        let k : Less ls p (count ns) q (count ns₁) (many p) ns₂ ns₃ = subst (λ z. Less ls p z q (count ns₁) (many p) ns₂ ns₃) ex (subst (λ z. Less ls p x q z (many p) ns₂ ns₃) ey lessened) in
+        record {
       grown = grown-trans ns ns₂ ns₃ (grown-trans ns ns₁ ns₂ (a .grown) (b .grown)) (k .grown);
       more = omega (arith, counts, k .more);
       within = λ i m. rw (ne-eqb (many q) 0 z) (subst (λ t. t + i * less-size (wide p) (many q) + less-size (wide p) (many q) - 1 < count ns₃) counts (k .within i m));
@@ -118,5 +120,5 @@ module _ (ls : List ℕ) (c : ℕ) (ns : List ℕ) where
     }
 
 -- the question below can be built on
-pub laid-ready : (ls : List ℕ) (c : ℕ) (p : Plan) (ns ns₁ : List ℕ) (t : ℕ) → Fits ls c p → Laid ls p ns ns₁ → count ns + size p ≤ 1000000 → count ns₁ ≤ t → Ready ls c p (count ns) t
-laid-ready ls c p ns ns₁ t f a l h = record { fits = f; low = l; stand = λ i z. omega (arith, a .within i z) }
+pub laid-ready : (ls : List ℕ) (c : ℕ) (p : Plan) (b : ℕ) (ns ns₁ : List ℕ) (t : ℕ) → Fits ls c p → b ≡ count ns → Laid ls p ns ns₁ → count ns + size p ≤ 1000000 → count ns₁ ≤ t → Ready ls c p b t
+laid-ready ls c p b ns ns₁ t f e a l h = rw e (record { fits = f; low = l; stand = λ i z. omega (arith, a .within i z) })

@@ -8,10 +8,10 @@ ghost use Rattle.condition.specs.Cond.{equal, both, not-so};
 ghost use Rattle.condition.specs.Store.{count, cond-at, has-name};
 ghost use Rattle.condition.specs.Shapes.{cell-of};
 ghost use Rattle.query.specs.Shapes.{test-of};
-ghost use Rattle.answer.specs.Plan.{many, wide, size, tests, inside};
+ghost use Rattle.answer.specs.Plan.{many, wide, size, tests, inside, less-size, equals};
 ghost use Rattle.answer.specs.Plan as plan;
 ghost use Rattle.answer.specs.Planned.{plan-of, Sound};
-ghost use Rattle.answer.specs.Laid.{Ready, New, Kept, now-at};
+ghost use Rattle.answer.specs.Laid.{Based, Ready, New, Laid, Kept, Joined, Less, less, now-at};
 use crate::places::cell;
 use crate::places::place;
 use crate::side::Asked;
@@ -19,7 +19,52 @@ use crate::side::Side;
 use condition::Cell;
 use condition::Node;
 use condition::add;
+use query::Sign;
 use query::Test;
+
+// Lays the nodes of a question behind those that stand.
+pub(crate) fn lay(asked: Asked, side: Side, nodes: &mut [u64])
+    requires sound { ⌜ Sound (side .left) (now (asked .shapes)) (now (side .parts)) (now (asked .lists)) (asked .first) ⌝ }
+    requires based { ⌜ Based (asked .first) (now nodes) ⌝ }
+    requires base { ⌜ side .base ≡ count (now nodes) ⌝ }
+    requires room { ⌜ 1 + 5 * (count (now nodes) + size (plan-of (side .left) (now (asked .shapes)) (now (side .parts)))) ≤ length (now nodes) ⌝ }
+    requires low { ⌜ count (now nodes) + size (plan-of (side .left) (now (asked .shapes)) (now (side .parts))) ≤ 1000000 ⌝ }
+    ensures { λ _. ⌜ Laid (now (asked .entry .lists)) (plan-of (side .entry .left) (now (asked .entry .shapes)) (now (side .entry .parts))) (now (nodes .entry)) (now (nodes .exit)) ⌝ }
+{
+    if side.left == 0 {
+        return;
+    }
+    let here = side.part();
+    match here.sign {
+        Sign::Rows(_) => {}
+        Sign::Keep(test) => {
+            let p = side.below(1, side.base);
+            lay(asked, p, nodes);
+            keep_lines(asked, p, test, nodes);
+        }
+        Sign::Columns(_) => lay(asked, side.below(1, side.base), nodes),
+        Sign::Join(second) => {
+            let p = side.below(1, side.base);
+            lay(asked, p, nodes);
+            let q = side.below(second, nodes[0]);
+            lay(asked, q, nodes);
+            join_lines(asked, p, q, nodes);
+        }
+        Sign::Union(second) => {
+            lay(asked, side.below(1, side.base), nodes);
+            lay(asked, side.below(second, nodes[0]), nodes);
+        }
+        Sign::Without(second) => {
+            let p = side.below(1, side.base);
+            lay(asked, p, nodes);
+            let q = side.below(second, nodes[0]);
+            lay(asked, q, nodes);
+            if q.part().lines > 0 {
+                less_lines(asked, p, q, nodes);
+            }
+        }
+    }
+}
 
 // Adds a test to the condition of each line.
 fn keep_lines(asked: Asked, side: Side, test: Test, nodes: &mut [u64])
@@ -64,4 +109,93 @@ fn and_test(nodes: &mut [u64], c: u64, alike: bool, x: Cell, y: Cell)
     let d = add(nodes, Node::Not(e));
     let t = if alike { e } else { d };
     add(nodes, Node::Both(c, t));
+}
+
+// Each line of the first question with each of the second.
+fn join_lines(asked: Asked, p: Side, q: Side, nodes: &mut [u64])
+    requires first { ⌜ Sound (p .left) (now (asked .shapes)) (now (p .parts)) (now (asked .lists)) (asked .first) ⌝ ∗ ⌜ Ready (now (asked .lists)) (asked .first) (plan-of (p .left) (now (asked .shapes)) (now (p .parts))) (p .base) (count (now nodes)) ⌝ }
+    requires second { ⌜ Sound (q .left) (now (asked .shapes)) (now (q .parts)) (now (asked .lists)) (asked .first) ⌝ ∗ ⌜ Ready (now (asked .lists)) (asked .first) (plan-of (q .left) (now (asked .shapes)) (now (q .parts))) (q .base) (count (now nodes)) ⌝ }
+    requires room { ⌜ 1 + 5 * (count (now nodes) + many (plan-of (p .left) (now (asked .shapes)) (now (p .parts))) * many (plan-of (q .left) (now (asked .shapes)) (now (q .parts)))) ≤ length (now nodes) ⌝ }
+    ensures { λ _. ⌜ Joined (now (asked .entry .lists)) (plan-of (p .entry .left) (now (asked .entry .shapes)) (now (p .entry .parts))) (p .entry .base) (plan-of (q .entry .left) (now (asked .entry .shapes)) (now (q .entry .parts))) (q .entry .base) (many (plan-of (p .entry .left) (now (asked .entry .shapes)) (now (p .entry .parts))) * many (plan-of (q .entry .left) (now (asked .entry .shapes)) (now (q .entry .parts)))) (now (nodes .entry)) (now (nodes .exit)) ⌝ }
+{
+    let n = p.part().lines;
+    let m = q.part().lines;
+    let pairs = n * m;
+    for i in 0..pairs {
+        let c = place(asked, p, i / m);
+        let d = place(asked, q, i % m);
+        add(nodes, Node::Both(c, d));
+    }
+}
+
+// Each line of the first question, less those of the second.
+fn less_lines(asked: Asked, p: Side, q: Side, nodes: &mut [u64])
+    requires based { ⌜ Based (asked .first) (now nodes) ⌝ }
+    requires first { ⌜ Sound (p .left) (now (asked .shapes)) (now (p .parts)) (now (asked .lists)) (asked .first) ⌝ ∗ ⌜ Ready (now (asked .lists)) (asked .first) (plan-of (p .left) (now (asked .shapes)) (now (p .parts))) (p .base) (count (now nodes)) ⌝ }
+    requires second { ⌜ Sound (q .left) (now (asked .shapes)) (now (q .parts)) (now (asked .lists)) (asked .first) ⌝ ∗ ⌜ Ready (now (asked .lists)) (asked .first) (plan-of (q .left) (now (asked .shapes)) (now (q .parts))) (q .base) (count (now nodes)) ⌝ }
+    requires width { ⌜ wide (plan-of (p .left) (now (asked .shapes)) (now (p .parts))) ≡ wide (plan-of (q .left) (now (asked .shapes)) (now (q .parts))) ⌝ }
+    requires some { ⌜ 0 < many (plan-of (q .left) (now (asked .shapes)) (now (q .parts))) ⌝ }
+    requires room { ⌜ 1 + 5 * (count (now nodes) + many (plan-of (p .left) (now (asked .shapes)) (now (p .parts))) * less-size (wide (plan-of (p .left) (now (asked .shapes)) (now (p .parts)))) (many (plan-of (q .left) (now (asked .shapes)) (now (q .parts))))) ≤ length (now nodes) ⌝ }
+    ensures { λ _. ⌜ Less (now (asked .entry .lists)) (plan-of (p .entry .left) (now (asked .entry .shapes)) (now (p .entry .parts))) (p .entry .base) (plan-of (q .entry .left) (now (asked .entry .shapes)) (now (q .entry .parts))) (q .entry .base) (many (plan-of (p .entry .left) (now (asked .entry .shapes)) (now (p .entry .parts)))) (now (nodes .entry)) (now (nodes .exit)) ⌝ }
+{
+    let n = p.part().lines;
+    for i in 0..n {
+        less_line(asked, p, q, i, nodes);
+    }
+}
+
+// Line i of the first question, less the lines of the second.
+fn less_line(asked: Asked, p: Side, q: Side, i: u64, nodes: &mut [u64])
+    requires based { ⌜ Based (asked .first) (now nodes) ⌝ }
+    requires first { ⌜ Sound (p .left) (now (asked .shapes)) (now (p .parts)) (now (asked .lists)) (asked .first) ⌝ ∗ ⌜ Ready (now (asked .lists)) (asked .first) (plan-of (p .left) (now (asked .shapes)) (now (p .parts))) (p .base) (count (now nodes)) ⌝ ∗ ⌜ i < many (plan-of (p .left) (now (asked .shapes)) (now (p .parts))) ⌝ }
+    requires second { ⌜ Sound (q .left) (now (asked .shapes)) (now (q .parts)) (now (asked .lists)) (asked .first) ⌝ ∗ ⌜ Ready (now (asked .lists)) (asked .first) (plan-of (q .left) (now (asked .shapes)) (now (q .parts))) (q .base) (count (now nodes)) ⌝ }
+    requires width { ⌜ wide (plan-of (p .left) (now (asked .shapes)) (now (p .parts))) ≡ wide (plan-of (q .left) (now (asked .shapes)) (now (q .parts))) ⌝ }
+    requires some { ⌜ 0 < many (plan-of (q .left) (now (asked .shapes)) (now (q .parts))) ⌝ }
+    requires room { ⌜ 1 + 5 * (count (now nodes) + less-size (wide (plan-of (p .left) (now (asked .shapes)) (now (p .parts)))) (many (plan-of (q .left) (now (asked .shapes)) (now (q .parts))))) ≤ length (now nodes) ⌝ }
+    ensures { λ _. ⌜ New (less-size (wide (plan-of (p .entry .left) (now (asked .entry .shapes)) (now (p .entry .parts)))) (many (plan-of (q .entry .left) (now (asked .entry .shapes)) (now (q .entry .parts))))) (count (now (nodes .entry)) + less-size (wide (plan-of (p .entry .left) (now (asked .entry .shapes)) (now (p .entry .parts)))) (many (plan-of (q .entry .left) (now (asked .entry .shapes)) (now (q .entry .parts)))) - 1) (less (now (nodes .entry)) (now (asked .entry .lists)) (plan-of (p .entry .left) (now (asked .entry .shapes)) (now (p .entry .parts))) (p .entry .base) (plan-of (q .entry .left) (now (asked .entry .shapes)) (now (q .entry .parts))) (q .entry .base) i (many (plan-of (q .entry .left) (now (asked .entry .shapes)) (now (q .entry .parts))))) (now (nodes .entry)) (now (nodes .exit)) ⌝ }
+{
+    let m = q.part().lines;
+    let mut c = place(asked, p, i);
+    for j in 0..m {
+        c = spare(asked, p, q, i, j, c, nodes);
+    }
+}
+
+// The condition c, and that line j of the second question is not there with the cells of line i of the first.
+fn spare(asked: Asked, p: Side, q: Side, i: u64, j: u64, c: u64, nodes: &mut [u64]) -> u64
+    requires based { ⌜ Based (asked .first) (now nodes) ⌝ }
+    requires first { ⌜ Sound (p .left) (now (asked .shapes)) (now (p .parts)) (now (asked .lists)) (asked .first) ⌝ ∗ ⌜ i < many (plan-of (p .left) (now (asked .shapes)) (now (p .parts))) ⌝ }
+    requires second { ⌜ Sound (q .left) (now (asked .shapes)) (now (q .parts)) (now (asked .lists)) (asked .first) ⌝ ∗ ⌜ Ready (now (asked .lists)) (asked .first) (plan-of (q .left) (now (asked .shapes)) (now (q .parts))) (q .base) (count (now nodes)) ⌝ ∗ ⌜ j < many (plan-of (q .left) (now (asked .shapes)) (now (q .parts))) ⌝ }
+    requires width { ⌜ wide (plan-of (p .left) (now (asked .shapes)) (now (p .parts))) ≡ wide (plan-of (q .left) (now (asked .shapes)) (now (q .parts))) ⌝ }
+    requires stands { ⌜ c < count (now nodes) ⌝ }
+    requires room { ⌜ 1 + 5 * (count (now nodes) + (2 * wide (plan-of (p .left) (now (asked .shapes)) (now (p .parts))) + 3)) ≤ length (now nodes) ⌝ }
+    ensures new { λ r. ⌜ New (2 * wide (plan-of (p .entry .left) (now (asked .entry .shapes)) (now (p .entry .parts))) + 3) r (both (cond-at (now (nodes .entry)) c) (not-so (both (now-at (now (nodes .entry)) (now (asked .entry .lists)) (plan-of (q .entry .left) (now (asked .entry .shapes)) (now (q .entry .parts))) (q .entry .base) j) (equals (wide (plan-of (p .entry .left) (now (asked .entry .shapes)) (now (p .entry .parts)))) 0 (plan.cell (now (asked .entry .lists)) (plan-of (p .entry .left) (now (asked .entry .shapes)) (now (p .entry .parts))) i) (plan.cell (now (asked .entry .lists)) (plan-of (q .entry .left) (now (asked .entry .shapes)) (now (q .entry .parts))) j))))) (now (nodes .entry)) (now (nodes .exit)) ⌝ }
+    ensures last { λ r. ⌜ r + 1 ≡ count (now (nodes .exit)) ⌝ }
+{
+    let e = equal_cells(asked, p, q, i, j, nodes);
+    let d = place(asked, q, j);
+    let f = add(nodes, Node::Both(d, e));
+    let g = add(nodes, Node::Not(f));
+    add(nodes, Node::Both(c, g))
+}
+
+// That the cells of line i of the first question and of line j of the second are equal one by one.
+fn equal_cells(asked: Asked, p: Side, q: Side, i: u64, j: u64, nodes: &mut [u64]) -> u64
+    requires based { ⌜ Based (asked .first) (now nodes) ⌝ }
+    requires first { ⌜ Sound (p .left) (now (asked .shapes)) (now (p .parts)) (now (asked .lists)) (asked .first) ⌝ ∗ ⌜ i < many (plan-of (p .left) (now (asked .shapes)) (now (p .parts))) ⌝ }
+    requires second { ⌜ Sound (q .left) (now (asked .shapes)) (now (q .parts)) (now (asked .lists)) (asked .first) ⌝ ∗ ⌜ j < many (plan-of (q .left) (now (asked .shapes)) (now (q .parts))) ⌝ }
+    requires width { ⌜ wide (plan-of (p .left) (now (asked .shapes)) (now (p .parts))) ≡ wide (plan-of (q .left) (now (asked .shapes)) (now (q .parts))) ⌝ }
+    requires room { ⌜ 1 + 5 * (count (now nodes) + 2 * wide (plan-of (p .left) (now (asked .shapes)) (now (p .parts)))) ≤ length (now nodes) ⌝ }
+    ensures { λ r. ⌜ New (2 * wide (plan-of (p .entry .left) (now (asked .entry .shapes)) (now (p .entry .parts)))) r (equals (wide (plan-of (p .entry .left) (now (asked .entry .shapes)) (now (p .entry .parts)))) 0 (plan.cell (now (asked .entry .lists)) (plan-of (p .entry .left) (now (asked .entry .shapes)) (now (p .entry .parts))) i) (plan.cell (now (asked .entry .lists)) (plan-of (q .entry .left) (now (asked .entry .shapes)) (now (q .entry .parts))) j)) (now (nodes .entry)) (now (nodes .exit)) ⌝ }
+{
+    let width = p.part().width;
+    let mut e = asked.first;
+    for r in 0..width {
+        let a = width - 1 - r;
+        let x = cell(asked, p, i, a);
+        let y = cell(asked, q, j, a);
+        let s = add(nodes, Node::Equal(x, y));
+        e = add(nodes, Node::Both(s, e));
+    }
+    e
 }
