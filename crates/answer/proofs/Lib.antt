@@ -7,3 +7,4 @@ pub mod Lines
 pub mod Steps
 pub mod Whole
 pub mod Views
+pub mod Putting

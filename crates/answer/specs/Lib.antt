@@ -6,3 +6,4 @@ pub mod Numbers
 pub mod Plan
 pub mod Laid
 pub mod Planned
+pub mod Written

@@ -10,6 +10,7 @@ use condition::Refusal;
 mod laying;
 mod places;
 mod side;
+mod writing;
 
 // What asking replies.
 #[derive(Clone, Copy)]
