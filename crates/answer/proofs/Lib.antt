@@ -8,3 +8,4 @@ pub mod Steps
 pub mod Whole
 pub mod Views
 pub mod Putting
+pub mod Planning
