@@ -123,3 +123,17 @@ module _ (ls : List ℕ) (sh : Shapes) (shaped : All-shaped ls sh) (c : ℕ) (na
       let s = m .0 in let o = p .1 in
       (s, (omega (arith, p .0, some-needs (part-at ps 0 .sign) u (λ i v. Parted n (shapes ls) v (drop i ps)) (p .3)),
           record { lines = o .lines ∙ s .lines; width = o .width ∙ s .width; cost = o .cost ∙ s .cost; narrow = s .narrow; cheap = omega (arith, s .cost) }, m .1))
+
+-- the same for the parts as they are passed on
+pub record Planned (ls : List ℕ) (sh : Shapes) (c : ℕ) (s : Sized) (n : ℕ) (qs : List Part) : Type 0 where
+  pub sound : Sound n sh qs ls c
+  pub lines : s .lines ≡ many (plan-of n sh qs)
+  pub width : s .width ≡ wide (plan-of n sh qs)
+  pub cost : s .cost ≡ size (plan-of n sh qs)
+  pub answers : (ns : List ℕ) → answer (s .query) (all-in ns ls) ≡ answer-to ns ls (plan-of n sh qs)
+
+pub planned-at : (ls : List ℕ) (sh : Shapes) → All-shaped ls sh → (k c : ℕ) → c ≡ k → named-below ls k ≡ None → (n u : ℕ) (ps qs : List Part) → qs ≡ ps →
+    Parted n (shapes ls) u ps → sized-of n (shapes ls) ps .cost ≤ 65536 → Planned ls sh c (sized-of n (shapes ls) ps) n qs
+planned-at ls sh shaped k c e named n u ps qs f p l =
+    rw (e, f) (let m = planned ls sh shaped k named n u ps p l in let s = m .0 in
+    record { sound = record { counted = m .1; fits = s .fits }; lines = s .lines; width = s .width; cost = s .cost; answers = s .answers })

@@ -6,8 +6,8 @@ use Prim.Native.Nat.{ℕ, suc, _+_, _-_, _*_, _≤_, _<_}
 use native.Mathlib.Nat.{suc-mul, zero-add}
 use native.Mathlib.Numerals.{add-one}
 use native.Mathlib.Omega.{arith}
-use lib.ListN.{length, getD, drop, set}
-use Rattle.std.proofs.shelf.Lists.{length-set, getD-set-other}
+use lib.ListN.{length, getD, drop, set, length-drop}
+use Rattle.std.proofs.shelf.Lists.{length-set, getD-set-other, getD-drop, ext-getD}
 use Rattle.std.proofs.shelf.Tests.{cases-lt}
 use Rattle.condition.specs.Cond.{Cell}
 use Rattle.condition.specs.Store.{cell-in, cond-at, count, Grown}
@@ -57,3 +57,9 @@ written-says ls c p b ns ns₁ ns₂ xs ys f e g eb a w =
             rw (y, x) at (w .body i l d m)))
         (ap (cond-at ns₂) ((rw z at (w .head i l)) ∙ ap (λ t. place ls p t i) eb) ∙ (a .is i l ∙ says-grown ns ns₁ ls c p i f l g e)))
     ∙ sym (answer-is ns ls c p f))
+
+-- past the lines the slice holds what it held
+pub drop-past : (k : ℕ) (xs ys : List ℕ) → length ys ≡ length xs → ((j : ℕ) → k ≤ j → getD ys j 0 ≡ getD xs j 0) → drop k ys ≡ drop k xs
+drop-past k xs ys e h =
+    ext-getD 0 (drop k ys) (drop k xs) (simp length-drop (rw e refl))
+    (λ j l. rw (getD-drop k ys j 0, getD-drop k xs j 0) (h (k + j) (omega arith)))
