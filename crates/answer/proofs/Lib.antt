@@ -9,3 +9,4 @@ pub mod Whole
 pub mod Views
 pub mod Putting
 pub mod Planning
+pub mod Staying

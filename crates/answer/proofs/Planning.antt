@@ -66,7 +66,7 @@ module _ (ls : List ℕ) (sh : Shapes) (shaped : All-shaped ls sh) (c : ℕ) (na
     pub narrow : wide p ≤ 8
     pub answers : (ns : List ℕ) → answer (s .query) (all-in ns ls) ≡ answer-to ns ls p
 
-  listed : (t : ℕ) → t < sh .count → Listed ls c (shape-of sh t .at) (shape-of sh t .lines) (shape-of sh t .width)
+  pub listed : (t : ℕ) → t < sh .count → Listed ls c (shape-of sh t .at) (shape-of sh t .lines) (shape-of sh t .width)
   listed t l =
       let s = shaped .each t l in
       let n = shape-of sh t .lines in let w = shape-of sh t .width in let at = shape-of sh t .at in

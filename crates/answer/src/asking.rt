@@ -8,7 +8,7 @@ ghost use Rattle.list.specs.Layout.{lines-in, all-in, lists-told, named-told};
 ghost use Rattle.list.specs.Layout as layout;
 ghost use Rattle.query.specs.Parts.{sized-of, Parted};
 ghost use Rattle.answer.specs.Answer.{answer};
-ghost use Rattle.answer.specs.Entry.{answer-size};
+ghost use Rattle.answer.specs.Entry.{answer-size, Stays};
 use crate::laying::lay;
 use crate::side::Asked;
 use crate::side::Side;
@@ -29,6 +29,7 @@ fn put_answer(lists: &[u64], question: &Question, nodes: &mut [u64], out: &mut [
     ensures grown { λ _. ⌜ Grown (now (nodes .entry)) (now (nodes .exit)) ⌝ }
     ensures few { λ _. ⌜ count (now (nodes .exit)) ≤ count (now (nodes .entry)) + sized-of 16 (layout.shapes (now (lists .entry))) (now (question .entry) .parts) .cost + 2 ⌝ }
     ensures lines { λ _. ⌜ lines-in (now (nodes .exit)) (sized-of 16 (layout.shapes (now (lists .entry))) (now (question .entry) .parts) .lines) (sized-of 16 (layout.shapes (now (lists .entry))) (now (question .entry) .parts) .width) (now (out .exit)) ≡ answer (sized-of 16 (layout.shapes (now (lists .entry))) (now (question .entry) .parts) .query) (all-in (now (nodes .entry)) (now (lists .entry))) ⌝ }
+    ensures stays { λ _. ⌜ Stays (now (lists .entry)) (now (nodes .entry)) (now (nodes .exit)) ⌝ }
     ensures past { λ _. ⌜ drop (answer-size (sized-of 16 (layout.shapes (now (lists .entry))) (now (question .entry) .parts))) (now (out .exit)) ≡ drop (answer-size (sized-of 16 (layout.shapes (now (lists .entry))) (now (question .entry) .parts))) (now (out .entry)) ⌝ }
 {
     let shapes = Shapes::of(lists);

@@ -9,6 +9,7 @@ use Rattle.answer.specs.Plan.{many, wide}
 use Rattle.answer.specs.Planned.{plan-of}
 use Rattle.answer.proofs.Planning.{planned-at}
 use Rattle.answer.proofs.Putting.{written-says, drop-past}
+use Rattle.answer.proofs.Staying.{stays}
 use Rattle.answer.proofs.asking.put_answer.Needs as need
 
 pub lay-requires : need.lay-requires
@@ -37,4 +38,5 @@ returns c =
       few = omega (arith, c .lay .ensures .more, a .count, a .place, p .cost);
       lines = rw (p .lines, p .width)
         (written-says (c .args .lists .now) (c .add-first .result) (plan-of 16 (c .of-shapes .result) (c .parts .result .now)) ((c .add-first .result) + 1) (c .args .nodes .now) (c .add-first .last .nodes) (c .lay .last .nodes) (c .args .out .now) (c .put-lines .last .out) (p .sound .fits) (omega (arith, a .place)) (a .grown) (sym (a .count)) (c .lay .ensures) (c .put-lines .ensures) ∙ sym (p .answers (c .args .nodes .now)));
+      stays = stays (c .args .lists .now) (c .of-shapes .result) (c .args .nodes .now) (c .lay .last .nodes) (c .of-shapes .ensures) (c .pre .named) (grown-trans (c .args .nodes .now) (c .add-first .last .nodes) (c .lay .last .nodes) (a .grown) (c .lay .ensures .grown));
       past = rw (p .lines, p .width) (drop-past (many (plan-of 16 (c .of-shapes .result) (c .parts .result .now)) * line-size (wide (plan-of 16 (c .of-shapes .result) (c .parts .result .now)))) (c .args .out .now) (c .put-lines .last .out) (c .put-lines .ensures .long) (c .put-lines .ensures .past)) }
