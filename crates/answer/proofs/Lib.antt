@@ -10,3 +10,4 @@ pub mod Views
 pub mod Putting
 pub mod Planning
 pub mod Staying
+pub mod Checking

@@ -13,6 +13,8 @@ mod places;
 mod side;
 mod writing;
 
+pub use asking::ask;
+
 // What asking replies.
 #[derive(Clone, Copy)]
 pub enum Reply {

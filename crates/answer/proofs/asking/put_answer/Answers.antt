@@ -35,6 +35,7 @@ returns c =
     let a = c .add-first .ensures in
     record {
       grown = grown-trans (c .args .nodes .now) (c .add-first .last .nodes) (c .lay .last .nodes) (a .grown) (c .lay .ensures .grown);
+      long = c .put-lines .ensures .long;
       few = omega (arith, c .lay .ensures .more, a .count, a .place, p .cost);
       lines = rw (p .lines, p .width)
         (written-says (c .args .lists .now) (c .add-first .result) (plan-of 16 (c .of-shapes .result) (c .parts .result .now)) ((c .add-first .result) + 1) (c .args .nodes .now) (c .add-first .last .nodes) (c .lay .last .nodes) (c .args .out .now) (c .put-lines .last .out) (p .sound .fits) (omega (arith, a .place)) (a .grown) (sym (a .count)) (c .lay .ensures) (c .put-lines .ensures) ∙ sym (p .answers (c .args .nodes .now)));
