@@ -2,3 +2,12 @@ pub mod Right
 pub mod Known
 pub mod Baptisms
 pub mod Numbers
+pub mod Tabs
+pub mod Lines
+pub mod Steps
+pub mod Whole
+pub mod Views
+pub mod Putting
+pub mod Planning
+pub mod Staying
+pub mod Checking

@@ -2,16 +2,18 @@
 --
 --   ask-told lists signs nodes out            what is told, the first number of the list that applies
 --   Ask-says lists signs nodes out r ns os    what the reply is, and what the store and the answer's slice hold after
+--   Stays lists nodes ns                      the lists and all conditions that stood mean what they meant
+--   where-done r p                            p, where the reply r is an answer
 use mathlib.Core.Path.{_≡_}
 use mathlib.Core.List.{List}
-use Prim.Native.Nat.{ℕ, _+_, _*_, _≤_}
+use Prim.Native.Nat.{ℕ, _+_, _*_, _≤_, _<_}
 use lib.Dec.{leb}
 use lib.ListN.{length, drop}
 use Rattle.std.specs.declared.option.Option.{Option}
 use Rattle.std.specs.declared.option.Option.the-variants.{Some, None}
 use Rattle.condition.specs.Refusals.{Told, told, first, unless}
-use Rattle.condition.specs.Store.{count, store-told, room-told, Grown}
-use Rattle.list.specs.Layout.{line-size, lines-in, all-in, lists-told, named-told}
+use Rattle.condition.specs.Store.{count, cond-at, store-told, room-told, Grown}
+use Rattle.list.specs.Layout.{line-size, lines-in, known-in, all-in, lists-told, named-told}
 use Rattle.query.specs.Reading.{Sized, Read, asked, sized, question-told, size-told}
 use Rattle.answer.specs.Answer.{answer}
 use Rattle.answer.specs.declared.Reply.{Reply}
@@ -53,3 +55,12 @@ Ask-leaves lists signs nodes out (Some t) (Refused e) nodes₁ out₁ = (told e 
 
 abbrev pub Ask-says : (lists signs nodes out : List ℕ) → Reply → (nodes₁ out₁ : List ℕ) → Type 0
 Ask-says lists signs nodes out r nodes₁ out₁ = Ask-leaves lists signs nodes out (ask-told lists signs nodes out) r nodes₁ out₁
+
+pub record Stays (lists nodes nodes₁ : List ℕ) : Type 0 where
+  pub conditions : (j : ℕ) → j < count nodes → cond-at nodes₁ j ≡ cond-at nodes j
+  pub known : known-in nodes₁ lists ≡ known-in nodes lists
+  pub all : all-in nodes₁ lists ≡ all-in nodes lists
+
+abbrev pub where-done : Reply → Type 0 → Type 0
+where-done (Done n) p = p
+where-done (Refused e) p = Unit {0}

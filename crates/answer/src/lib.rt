@@ -7,6 +7,14 @@ ghost use Rattle.answer.specs.Numbers.{Same-number};
 ghost use Rattle.answer.specs.Baptisms.{Table, False-answers};
 use condition::Refusal;
 
+mod asking;
+mod laying;
+mod places;
+mod side;
+mod writing;
+
+pub use asking::ask;
+
 // What asking replies.
 #[derive(Clone, Copy)]
 pub enum Reply {
