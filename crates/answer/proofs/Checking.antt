@@ -113,10 +113,12 @@ module _ (lists signs nodes out : List ℕ) where
       let h = and-parts (leb (count nodes) 131072) (leb (1 + 5 * count nodes) (length nodes)) (unless-none (store-fits nodes) 2 (count nodes) (b .0)) in
       let k = leb-true (1 + 5 * count nodes) (length nodes) (h .1) in
       record {
-        listed = a .0; named = c .0;
+        listed = a .0;
+        named = c .0;
         few = leb-true (count nodes) 131072 (h .0);
         room = omega arith;
-        size = leb-true (answer-size s) (length out) (unless-none (leb (answer-size s) (length out)) 7 (length out) (g .1)) }
+        size = leb-true (answer-size s) (length out) (unless-none (leb (answer-size s) (length out)) 7 (length out) (g .1));
+      }
 
 -- its lines are at most eight cells wide
 pub narrow : (lists signs nodes : List ℕ) (sh : Shapes) → All-shaped lists sh → None ≡ check-told lists nodes → (ps : List Part) (n : ℕ) →

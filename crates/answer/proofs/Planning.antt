@@ -56,7 +56,6 @@ some-needs (Union k) u P n = omega (arith, n .1)
 some-needs (Without k) u P n = omega (arith, n .1)
 
 module _ (ls : List ℕ) (sh : Shapes) (shaped : All-shaped ls sh) (c : ℕ) (named : named-below ls c ≡ None) where
-
   -- a plan has the numbers and the answer of a question
   pub record Meets (s : Sized) (p : Plan) : Type 0 where
     pub fits : Fits ls c p
@@ -71,13 +70,14 @@ module _ (ls : List ℕ) (sh : Shapes) (shaped : All-shaped ls sh) (c : ℕ) (na
       let s = shaped .each t l in
       let n = shape-of sh t .lines in let w = shape-of sh t .width in let at = shape-of sh t .at in
       record {
-        whole = s .whole; narrow = s .narrow;
+        whole = s .whole;
+        narrow = s .narrow;
         stand = λ i m. let k = at + i * line-size w in subst (λ z. z < c) (node-at (drop k ls) ls k refl) (line-named c n w i at ls (drop k ls) m refl (s .named c named));
-        named = λ i a m o. let k = at + i * line-size w in subst (λ z. has-name z ≡ true) (cell-at-line (drop k ls) ls k a refl) (line-cell-named n w i a at ls (drop k ls) m o refl (s .cells)) }
+        named = λ i a m o. let k = at + i * line-size w in subst (λ z. has-name z ≡ true) (cell-at-line (drop k ls) ls k a refl) (line-cell-named n w i a at ls (drop k ls) m o refl (s .cells));
+      }
 
   module _ (w u : ℕ) (f : ℕ → Sized) (h : ℕ → Plan) (C : ℕ → Type 0) (Q : ℕ → ℕ → Type 0)
       (below : (i v : ℕ) → Q i v → f i .cost ≤ 65536 → Meets (f i) (h i) × C i) where
-
     by-sign : (g : Sign) → sized-by g w (shapes ls) f .cost ≤ 65536 → Fits-by g w (shapes ls) f → Needs-by g u Q → Meets (sized-by g w (shapes ls) f) (plan-by g w sh h) × Below-by g sh C
     unfolding answer answer-to many wide size Fits
     by-sign (Rows t) x y z =
@@ -85,44 +85,81 @@ module _ (ls : List ℕ) (sh : Shapes) (shaped : All-shaped ls sh) (c : ℕ) (na
         let s = shaped .each t l in
         (record { fits = listed t l; lines = ap (λ q. q .0) (s .is); width = ap (λ q. q .1) (s .is); cost = refl; narrow = omega (arith, s .narrow); answers = λ ns. s .says ns }, (l, shaped .few))
     by-sign (Keep t) x y z =
-        let m = below 1 (u - 1) (z .1) (omega arith) in let p = m .0 in
-        (record {
-          fits = (test-inside (test-of t) (wide (h 1)) (subst (λ q. test-fits (test-of t) q ≡ true) (p .width) y), p .fits);
-          lines = p .lines; width = p .width; cost = omega (arith, p .cost, p .lines); narrow = p .narrow; answers = λ ns. ap (tested (test-of t)) (p .answers ns) }, m .1)
+        let m = below 1 (u - 1) (z .1) (omega arith) in let p = m .0 in (
+          record {
+            fits = (test-inside (test-of t) (wide (h 1)) (subst (λ q. test-fits (test-of t) q ≡ true) (p .width) y), p .fits);
+            lines = p .lines;
+            width = p .width;
+            cost = omega (arith, p .cost, p .lines);
+            narrow = p .narrow;
+            answers = λ ns. ap (tested (test-of t)) (p .answers ns);
+          },
+          m .1,
+        )
     by-sign (Columns cs) x y z =
         let m = below 1 (u - 1) (z .1) (omega arith) in let p = m .0 in
-        let e : w ≡ length (take w cs) = rw length-take (omega (arith, y .0, y .2)) in
-        (record {
-          fits = (below-at (wide (h 1)) (take w cs) (subst (λ q. all-below q (take w cs) ≡ true) (p .width) (y .3)), p .fits);
-          lines = p .lines; width = e; cost = p .cost; narrow = omega (arith, e, y .2); answers = λ ns. ap (cut-lines (take w cs)) (p .answers ns) }, (y .0, m .1))
+        let e : w ≡ length (take w cs) = rw length-take (omega (arith, y .0, y .2)) in (
+          record {
+            fits = (below-at (wide (h 1)) (take w cs) (subst (λ q. all-below q (take w cs) ≡ true) (p .width) (y .3)), p .fits);
+            lines = p .lines;
+            width = e;
+            cost = p .cost;
+            narrow = omega (arith, e, y .2);
+            answers = λ ns. ap (cut-lines (take w cs)) (p .answers ns);
+          },
+          (y .0, m .1),
+        )
     by-sign (Join k) x y z =
-        let m = below 1 (k - 1) (z .2) (omega arith) in let n = below k (u - k) (z .3) (omega arith) in let p = m .0 in let q = n .0 in
-        (record {
-          fits = (p .fits, q .fits);
-          lines = rw (p .lines, q .lines) refl; width = rw (p .width, q .width) refl; cost = rw (p .lines, q .lines, p .cost, q .cost) refl;
-          narrow = omega (arith, p .width, q .width, y); answers = λ ns. rw (p .answers ns, q .answers ns) refl }, (m .1, n .1))
+        let m = below 1 (k - 1) (z .2) (omega arith) in let n = below k (u - k) (z .3) (omega arith) in let p = m .0 in let q = n .0 in (
+          record {
+            fits = (p .fits, q .fits);
+            lines = rw (p .lines, q .lines) refl;
+            width = rw (p .width, q .width) refl;
+            cost = rw (p .lines, q .lines, p .cost, q .cost) refl;
+            narrow = omega (arith, p .width, q .width, y);
+            answers = λ ns. rw (p .answers ns, q .answers ns) refl;
+          },
+          (m .1, n .1),
+        )
     by-sign (Union k) x y z =
-        let m = below 1 (k - 1) (z .2) (omega arith) in let n = below k (u - k) (z .3) (omega arith) in let p = m .0 in let q = n .0 in
-        (record {
-          fits = (sym (p .width) ∙ (y ∙ q .width), p .fits, q .fits);
-          lines = rw (p .lines, q .lines) refl; width = p .width; cost = rw (p .cost, q .cost) refl;
-          narrow = p .narrow; answers = λ ns. rw (p .answers ns, q .answers ns) refl }, (m .1, n .1))
+        let m = below 1 (k - 1) (z .2) (omega arith) in let n = below k (u - k) (z .3) (omega arith) in let p = m .0 in let q = n .0 in (
+          record {
+            fits = (sym (p .width) ∙ (y ∙ q .width), p .fits, q .fits);
+            lines = rw (p .lines, q .lines) refl;
+            width = p .width;
+            cost = rw (p .cost, q .cost) refl;
+            narrow = p .narrow;
+            answers = λ ns. rw (p .answers ns, q .answers ns) refl;
+          },
+          (m .1, n .1),
+        )
     by-sign (Without k) x y z =
-        let m = below 1 (k - 1) (z .2) (omega arith) in let n = below k (u - k) (z .3) (omega arith) in let p = m .0 in let q = n .0 in
-        (record {
-          fits = (sym (p .width) ∙ (y ∙ q .width), p .fits, q .fits);
-          lines = p .lines; width = p .width; cost = rw (p .lines, q .lines, p .width, p .cost, q .cost, mul-assoc (many (h 1)) (many (h k)) (2 * wide (h 1) + 3)) refl;
-          narrow = p .narrow; answers = λ ns. rw (p .answers ns, q .answers ns) refl }, (m .1, n .1))
+        let m = below 1 (k - 1) (z .2) (omega arith) in let n = below k (u - k) (z .3) (omega arith) in let p = m .0 in let q = n .0 in (
+          record {
+            fits = (sym (p .width) ∙ (y ∙ q .width), p .fits, q .fits);
+            lines = p .lines;
+            width = p .width;
+            cost = rw (p .lines, q .lines, p .width, p .cost, q .cost, mul-assoc (many (h 1)) (many (h k)) (2 * wide (h 1) + 3)) refl;
+            narrow = p .narrow;
+            answers = λ ns. rw (p .answers ns, q .answers ns) refl;
+          },
+          (m .1, n .1),
+        )
 
   pub planned : (n u : ℕ) (ps : List Part) → Parted n (shapes ls) u ps → sized-of n (shapes ls) ps .cost ≤ 65536 → Meets (sized-of n (shapes ls) ps) (plan-of n sh ps) × Counted n sh ps
   unfolding sized-of Parted plan-of Counted
   planned zero u ps p l = absurd p
   planned (suc n) u ps p l =
       let m = by-sign (part-at ps 0 .width) u (λ i. sized-of n (shapes ls) (drop i ps)) (λ i. plan-of n sh (drop i ps)) (λ i. Counted n sh (drop i ps)) (λ i v. Parted n (shapes ls) v (drop i ps))
-            (λ i v q k. planned n v (drop i ps) q k) (part-at ps 0 .sign) l (p .2) (p .3) in
-      let s = m .0 in let o = p .1 in
-      (s, (omega (arith, p .0, some-needs (part-at ps 0 .sign) u (λ i v. Parted n (shapes ls) v (drop i ps)) (p .3)),
-          record { lines = o .lines ∙ s .lines; width = o .width ∙ s .width; cost = o .cost ∙ s .cost; narrow = s .narrow; cheap = omega (arith, s .cost) }, m .1))
+      (λ i v q k. planned n v (drop i ps) q k) (part-at ps 0 .sign) l (p .2) (p .3) in
+      let s = m .0 in let o = p .1 in (
+        s,
+        (
+          omega (arith, p .0, some-needs (part-at ps 0 .sign) u (λ i v. Parted n (shapes ls) v (drop i ps)) (p .3)),
+          record { lines = o .lines ∙ s .lines; width = o .width ∙ s .width; cost = o .cost ∙ s .cost; narrow = s .narrow; cheap = omega (arith, s .cost) },
+          m .1,
+        ),
+      )
 
 -- the same for the parts as they are passed on
 pub record Planned (ls : List ℕ) (sh : Shapes) (c : ℕ) (s : Sized) (n : ℕ) (qs : List Part) : Type 0 where

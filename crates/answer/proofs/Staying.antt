@@ -36,10 +36,11 @@ stays ls sh ns ns₁ shaped named g =
       conditions = λ j l. grown-cond ns ns₁ g j l;
       known = grown-cond ns ns₁ g (getD ls 1 0) (ltb-true (getD ls 1 0) (count ns) k);
       all = ext-getD [] (all-in ns₁ ls) (all-in ns ls) (length-lists ns₁ (getD ls 0 0) (drop 2 ls) ∙ sym (length-lists ns (getD ls 0 0) (drop 2 ls)))
-        (λ t l.
+          (λ t l.
           let m : t < sh .count = omega (arith, length-lists ns₁ (getD ls 0 0) (drop 2 ls), shaped .count) in
           let s = shaped .each t m in
-          s .says ns₁ ∙ (lines-stay ns ns₁ ls (shape-of sh t .at) (shape-of sh t .lines) (shape-of sh t .width) g (listed ls sh shaped (count ns) named t m) ∙ sym (s .says ns))) }
+          s .says ns₁ ∙ (lines-stay ns ns₁ ls (shape-of sh t .at) (shape-of sh t .lines) (shape-of sh t .width) g (listed ls sh shaped (count ns) named t m) ∙ sym (s .says ns)));
+    }
 
 pub stays-same : (ls ns ns₁ : List ℕ) → ns₁ ≡ ns → Stays ls ns ns₁
 stays-same ls ns ns₁ e = rw e (record { conditions = λ j l. refl; known = refl; all = refl })

@@ -54,10 +54,11 @@ module _ (ls : List ℕ) (c : ℕ) (ns : List ℕ) where
   laid-keep t p b ns₁ ns₂ e a kept =
       let k : Kept ls p (count ns) t (many p) ns₁ ns₂ = subst (λ z. Kept ls p z t (many p) ns₁ ns₂) e kept in
       record {
-      grown = grown-trans ns ns₁ ns₂ (a .grown) (k .grown);
-      more = omega (arith, a .more, k .more);
-      within = λ i m. subst (λ z. z + i * 3 + 3 - 1 < count ns₂) (a .more) (k .within i m);
-      is = λ i m. subst (λ z. cond-at ns₂ (z + i * 3 + 3 - 1) ≡ both (says ns ls p i) (tests t (cell ls p i))) (a .more) (k .is i m ∙ rw (a .is i m) refl) }
+        grown = grown-trans ns ns₁ ns₂ (a .grown) (k .grown);
+        more = omega (arith, a .more, k .more);
+        within = λ i m. subst (λ z. z + i * 3 + 3 - 1 < count ns₂) (a .more) (k .within i m);
+        is = λ i m. subst (λ z. cond-at ns₂ (z + i * 3 + 3 - 1) ≡ both (says ns ls p i) (tests t (cell ls p i))) (a .more) (k .is i m ∙ rw (a .is i m) refl);
+      }
 
   module _ (p q : Plan) (ns₁ ns₂ : List ℕ) (low : c ≤ count ns) (f : Fits ls c q) (a : Laid ls p ns ns₁) (b : Laid ls q ns₁ ns₂) where
     -- the lines of the first and of the second, as they stand behind both
@@ -90,13 +91,13 @@ module _ (ls : List ℕ) (c : ℕ) (ns : List ℕ) where
     laid-join x y ns₃ ex ey joined =
         let k : Joined ls p (count ns) q (count ns₁) (many p * many q) ns₂ ns₃ = subst (λ z. Joined ls p z q (count ns₁) (many p * many q) ns₂ ns₃) ex (subst (λ z. Joined ls p x q z (many p * many q) ns₂ ns₃) ey joined) in
         record {
-      grown = grown-trans ns ns₂ ns₃ (grown-trans ns ns₁ ns₂ (a .grown) (b .grown)) (k .grown);
-      more = omega (arith, counts, k .more);
-      within = λ i m. subst (λ z. z + i < count ns₃) counts (k .within i m);
-      is = λ i m. let g = pair-in i (many p) (many q) m in
-          subst (λ z. cond-at ns₃ (z + i) ≡ both (says ns ls p (i / many q)) (says ns ls q (i % many q))) counts
-          (k .is i m ∙ rw (first-is (i / many q) (g .0), second-is (i % many q) (g .1)) refl);
-    }
+          grown = grown-trans ns ns₂ ns₃ (grown-trans ns ns₁ ns₂ (a .grown) (b .grown)) (k .grown);
+          more = omega (arith, counts, k .more);
+          within = λ i m. subst (λ z. z + i < count ns₃) counts (k .within i m);
+          is = λ i m. let g = pair-in i (many p) (many q) m in
+              subst (λ z. cond-at ns₃ (z + i) ≡ both (says ns ls p (i / many q)) (says ns ls q (i % many q))) counts
+              (k .is i m ∙ rw (first-is (i / many q) (g .0), second-is (i % many q) (g .1)) refl);
+        }
 
     pub laid-none : many q ≡ 0 → Laid ls (without p q) ns ns₂
     unfolding size place says many rid
@@ -112,12 +113,12 @@ module _ (ls : List ℕ) (c : ℕ) (ns : List ℕ) where
     laid-less x y ns₃ ex ey z lessened =
         let k : Less ls p (count ns) q (count ns₁) (many p) ns₂ ns₃ = subst (λ z. Less ls p z q (count ns₁) (many p) ns₂ ns₃) ex (subst (λ z. Less ls p x q z (many p) ns₂ ns₃) ey lessened) in
         record {
-      grown = grown-trans ns ns₂ ns₃ (grown-trans ns ns₁ ns₂ (a .grown) (b .grown)) (k .grown);
-      more = omega (arith, counts, k .more);
-      within = λ i m. rw (ne-eqb (many q) 0 z) (subst (λ t. t + i * less-size (wide p) (many q) + less-size (wide p) (many q) - 1 < count ns₃) counts (k .within i m));
-      is = λ i m. rw (ne-eqb (many q) 0 z) (subst (λ t. cond-at ns₃ (t + i * less-size (wide p) (many q) + less-size (wide p) (many q) - 1) ≡ rid (many q) (wide p) (cell ls p i) (says ns ls q) (cell ls q) (says ns ls p i)) counts
-          (k .is i m ∙ rid-same (many q) (wide p) (cell ls p i) _ _ (cell ls q) _ _ (λ j l. second-is j l) (first-is i m)));
-    }
+          grown = grown-trans ns ns₂ ns₃ (grown-trans ns ns₁ ns₂ (a .grown) (b .grown)) (k .grown);
+          more = omega (arith, counts, k .more);
+          within = λ i m. rw (ne-eqb (many q) 0 z) (subst (λ t. t + i * less-size (wide p) (many q) + less-size (wide p) (many q) - 1 < count ns₃) counts (k .within i m));
+          is = λ i m. rw (ne-eqb (many q) 0 z) (subst (λ t. cond-at ns₃ (t + i * less-size (wide p) (many q) + less-size (wide p) (many q) - 1) ≡ rid (many q) (wide p) (cell ls p i) (says ns ls q) (cell ls q) (says ns ls p i)) counts
+              (k .is i m ∙ rid-same (many q) (wide p) (cell ls p i) _ _ (cell ls q) _ _ (λ j l. second-is j l) (first-is i m)));
+        }
 
 -- the question below can be built on
 pub laid-ready : (ls : List ℕ) (c : ℕ) (p : Plan) (b : ℕ) (ns ns₁ : List ℕ) (t : ℕ) → Fits ls c p → b ≡ count ns → Laid ls p ns ns₁ → count ns + size p ≤ 1000000 → count ns₁ ≤ t → Ready ls c p b t

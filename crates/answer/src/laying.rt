@@ -91,8 +91,20 @@ fn keep_line(asked: Asked, side: Side, test: Test, i: u64, nodes: &mut [u64])
 {
     let c = place(asked, side, i);
     match test {
-        Test::Same(a, b) => and_test(nodes, c, true, cell(asked, side, i, a), cell(asked, side, i, b)),
-        Test::Differ(a, b) => and_test(nodes, c, false, cell(asked, side, i, a), cell(asked, side, i, b)),
+        Test::Same(a, b) => and_test(
+            nodes,
+            c,
+            true,
+            cell(asked, side, i, a),
+            cell(asked, side, i, b),
+        ),
+        Test::Differ(a, b) => and_test(
+            nodes,
+            c,
+            false,
+            cell(asked, side, i, a),
+            cell(asked, side, i, b),
+        ),
         Test::Is(a, n) => and_test(nodes, c, true, cell(asked, side, i, a), Cell::Number(n)),
         Test::IsNot(a, n) => and_test(nodes, c, false, cell(asked, side, i, a), Cell::Number(n)),
     }

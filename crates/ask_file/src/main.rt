@@ -1,11 +1,18 @@
 // Answers a file of questions on lists with gaps, read from standard input.
+use answer::Reply;
+use answer::ask;
 use bytes::Input;
 use bytes::read_lists;
 use bytes::read_nodes;
+use condition::CellDisplay;
+use condition::Condition;
+use condition::ConditionDisplay;
 use condition::Refusal;
 use condition::RefusalFromAllocError;
+use condition::cell_at;
 use list::check;
 use query::Question;
+use std::alloc::AllocError;
 use std::alloc::Global;
 use std::error::AnyError;
 use std::io;
@@ -21,9 +28,10 @@ struct Book {
     nodes: Vec<u64>,
 }
 
-// A question of a file, and the rows that are asked about, one after the other.
+// A question of a file: its signs, how large its answer is, and the rows that are asked about, one after the other.
 #[derive(Drop)]
 struct Asked {
+    signs: Vec<u64>,
     question: Question,
     rows: Vec<u64>,
 }
@@ -39,7 +47,7 @@ fn run(rt: &LibcRuntime) -> Result<(), AnyError> {
     stdin.read_to_end(&mut bytes)?;
     let mut input = Input::new(bytes.as_slice());
     match read_book(heap, &mut input) {
-        Ok(book) => answer_all(rt, heap, &mut input, book.lists.as_slice())?,
+        Ok(book) => answer_all(rt, heap, &mut input, &book)?,
         Err(refusal) => refuse(rt, refusal)?,
     }
     Ok(())
@@ -57,14 +65,22 @@ fn read_book(heap: Global, input: &mut Input) -> Result<Book, Refusal> {
 }
 
 // Each question to the end of the file, or to one that can't be read: what stands behind it can't be cut into rows.
-fn answer_all(rt: &LibcRuntime, heap: Global, input: &mut Input, lists: &[u64]) -> io::Result<()> {
+fn answer_all(
+    rt: &LibcRuntime,
+    heap: Global,
+    input: &mut Input,
+    book: &Book,
+) -> Result<(), AnyError> {
     for _ in 0..input.left() {
         if input.left() == 0 {
             return Ok(());
         }
-        match read_question(heap, input, lists) {
-            Ok(asked) => answer(rt, &asked.question)?,
-            Err(refusal) => return refuse(rt, refusal),
+        match read_question(heap, input, book.lists.as_slice()) {
+            Ok(asked) => answer(rt, heap, book, &asked)?,
+            Err(refusal) => {
+                refuse(rt, refusal)?;
+                return Ok(());
+            }
         }
     }
     Ok(())
@@ -92,20 +108,74 @@ fn read_question(heap: Global, input: &mut Input, lists: &[u64]) -> Result<Asked
         &mut rows,
         Refusal::WrongWidth(cut),
     )?;
-    Ok(Asked { question, rows })
+    Ok(Asked {
+        signs,
+        question,
+        rows,
+    })
 }
 
-// How large the answer is; or that it is too large.
-fn answer(rt: &LibcRuntime, question: &Question) -> io::Result<()> {
-    match question.check_size() {
-        Ok(_) => {
-            let lines = question.lines();
-            let width = question.width();
-            let cost = question.cost();
-            println!(rt, "lines {lines} width {width} cost {cost}")
-        }
-        Err(refusal) => refuse(rt, refusal),
+// The answer line by line; or that it is too large.
+fn answer(rt: &LibcRuntime, heap: Global, book: &Book, asked: &Asked) -> Result<(), AnyError> {
+    if let Err(refusal) = asked.question.check_size() {
+        refuse(rt, refusal)?;
+        return Ok(());
     }
+    let width = asked.question.width();
+    let mut nodes = with_room(heap, book.nodes.as_slice(), asked.question.cost())?;
+    let size = asked
+        .question
+        .lines()
+        .saturating_mul(1 + 2 * width.min(8) as u64)
+        .min(69632);
+    let mut out = vec![in heap; 0u64; size as usize]?;
+    match ask(
+        book.lists.as_slice(),
+        asked.signs.as_slice(),
+        nodes.as_mut_slice(),
+        out.as_mut_slice(),
+    ) {
+        Reply::Done(_) => show_lines(rt, nodes.as_slice(), out.as_slice(), width)?,
+        Reply::Refused(refusal) => refuse(rt, refusal)?,
+    }
+    Ok(())
+}
+
+// The nodes, with room behind them for as many as asking may add.
+fn with_room(heap: Global, nodes: &[u64], cost: u64) -> Result<Vec<u64>, AllocError> {
+    let mut room = Vec::from_slice(heap, nodes)?;
+    for _ in 0..cost.min(65536) * 5 + 10 {
+        room.push(0)?;
+    }
+    Ok(room)
+}
+
+// The lines of an answer, w cells wide.
+fn show_lines(rt: &LibcRuntime, nodes: &[u64], lines: &[u64], w: usize) -> io::Result<()> {
+    let size = w.saturating_mul(2).saturating_add(1);
+    let mut rest = lines;
+    for _ in 0..lines.len() {
+        if rest.len() < size {
+            return Ok(());
+        }
+        let (line, after) = rest.split_at(size);
+        show_line(rt, nodes, line)?;
+        rest = after;
+    }
+    Ok(())
+}
+
+// The cells of a line, and its condition in words.
+fn show_line(rt: &LibcRuntime, nodes: &[u64], line: &[u64]) -> io::Result<()> {
+    for a in 0..line.len() / 2 {
+        if 2 * a + 2 < line.len() {
+            let cell = cell_at(line, 2 * a + 1);
+            print!(rt, "{cell} ")?;
+        }
+    }
+    let node = line.first().copied().unwrap_or(0);
+    let condition = Condition { nodes, node };
+    println!(rt, "if {condition}")
 }
 
 fn refuse(rt: &LibcRuntime, refusal: Refusal) -> io::Result<()> {

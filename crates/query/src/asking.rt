@@ -57,7 +57,11 @@ pub(crate) fn ask_rows(
 }
 
 // A copy of the rows of a list; none past the last list.
-pub(crate) fn table(heap: Global, tables: &[Vec<Vec<u64>>], t: usize) -> Result<Vec<Vec<u64>>, AllocError>
+pub(crate) fn table(
+    heap: Global,
+    tables: &[Vec<Vec<u64>>],
+    t: usize,
+) -> Result<Vec<Vec<u64>>, AllocError>
     ensures { λ r. ⌜ made r (λ v. rows-of v ≡ getD (tables-in (now (tables .entry))) t []) ⌝ }
 {
     if t < tables.len() {

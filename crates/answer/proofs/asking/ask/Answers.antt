@@ -17,6 +17,7 @@ returns-in-Ok c =
     let a = c .put-answer .ensures in let l = rw (s .sizes) at (a .lines) in
     record {
       says = says-done (c .args .lists .now) (c .args .signs .now) (c .args .nodes .now) (c .args .out .now) (c .lines .result) (c .put-answer .last .nodes) (c .put-answer .last .out) (c .in-Ok .ensures tt .refusal) (c .lines .ensures ∙ n .lines)
-        (record { grown = a .grown; few = rw (s .sizes) at (a .few); long = a .long; lines = l; past = rw (s .sizes) at (a .past) });
+          (record { grown = a .grown; few = rw (s .sizes) at (a .few); long = a .long; lines = l; past = rw (s .sizes) at (a .past) });
       answers = λ v h r. rw l (answer-right (known-in (c .args .nodes .now) (c .args .lists .now)) (all-in (c .args .nodes .now) (c .args .lists .now)) (question (c .args .lists .now) (c .args .signs .now) .query) v h r);
-      stays = a .stays }
+      stays = a .stays;
+    }

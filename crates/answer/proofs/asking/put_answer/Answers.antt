@@ -21,7 +21,8 @@ lay-requires c κs =
       based = record { low = omega (arith, a .count); always = a .new };
       base = sym (a .count);
       room = omega (arith, p .cost, a .count, a .place, c .pre .store .0);
-      low = omega (arith, p .cost, a .count, a .place, c .pre .store .1, c .pre .cost) }
+      low = omega (arith, p .cost, a .count, a .place, c .pre .store .1, c .pre .cost);
+    }
 
 pub put-lines-requires : need.put-lines-requires
 put-lines-requires c κs =
@@ -38,6 +39,7 @@ returns c =
       long = c .put-lines .ensures .long;
       few = omega (arith, c .lay .ensures .more, a .count, a .place, p .cost);
       lines = rw (p .lines, p .width)
-        (written-says (c .args .lists .now) (c .add-first .result) (plan-of 16 (c .of-shapes .result) (c .parts .result .now)) ((c .add-first .result) + 1) (c .args .nodes .now) (c .add-first .last .nodes) (c .lay .last .nodes) (c .args .out .now) (c .put-lines .last .out) (p .sound .fits) (omega (arith, a .place)) (a .grown) (sym (a .count)) (c .lay .ensures) (c .put-lines .ensures) ∙ sym (p .answers (c .args .nodes .now)));
+          (written-says (c .args .lists .now) (c .add-first .result) (plan-of 16 (c .of-shapes .result) (c .parts .result .now)) ((c .add-first .result) + 1) (c .args .nodes .now) (c .add-first .last .nodes) (c .lay .last .nodes) (c .args .out .now) (c .put-lines .last .out) (p .sound .fits) (omega (arith, a .place)) (a .grown) (sym (a .count)) (c .lay .ensures) (c .put-lines .ensures) ∙ sym (p .answers (c .args .nodes .now)));
       stays = stays (c .args .lists .now) (c .of-shapes .result) (c .args .nodes .now) (c .lay .last .nodes) (c .of-shapes .ensures) (c .pre .named) (grown-trans (c .args .nodes .now) (c .add-first .last .nodes) (c .lay .last .nodes) (a .grown) (c .lay .ensures .grown));
-      past = rw (p .lines, p .width) (drop-past (many (plan-of 16 (c .of-shapes .result) (c .parts .result .now)) * line-size (wide (plan-of 16 (c .of-shapes .result) (c .parts .result .now)))) (c .args .out .now) (c .put-lines .last .out) (c .put-lines .ensures .long) (c .put-lines .ensures .past)) }
+      past = rw (p .lines, p .width) (drop-past (many (plan-of 16 (c .of-shapes .result) (c .parts .result .now)) * line-size (wide (plan-of 16 (c .of-shapes .result) (c .parts .result .now)))) (c .args .out .now) (c .put-lines .last .out) (c .put-lines .ensures .long) (c .put-lines .ensures .past));
+    }

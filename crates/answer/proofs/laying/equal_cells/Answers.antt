@@ -39,13 +39,13 @@ loop-r-again c =
     let x = cell-named (c .args .asked .lists .now) (c .args .asked .first) (plan-of (c .args .p .left) (c .args .asked .shapes .now) (c .args .p .parts .now)) (c .args .i) a (c .pre .first .0 .fits) (c .pre .first .1) (omega (arith, n .width)) in
     let y = cell-named (c .args .asked .lists .now) (c .args .asked .first) (plan-of (c .args .q .left) (c .args .asked .shapes .now) (c .args .q .parts .now)) (c .args .j) a (c .pre .second .0 .fits) (c .pre .second .1) (omega (arith, n .width, c .pre .width)) in
     equals-turn (cell (c .args .asked .lists .now) (plan-of (c .args .p .left) (c .args .asked .shapes .now) (c .args .p .parts .now)) (c .args .i)) (cell (c .args .asked .lists .now) (plan-of (c .args .q .left) (c .args .asked .shapes .now) (c .args .q .parts .now)) (c .args .j)) (wide (plan-of (c .args .p .left) (c .args .asked .shapes .now) (c .args .p .parts .now))) (c .loop-r .r) a (c .loop-r .e) (c .add-s .result) (c .add-e .result)
-      (c .args .nodes .now) (c .loop-r .nodes) (c .add-s .last .nodes) (c .add-e .last .nodes)
-      (omega (arith, n .width)) (omega (arith, n .width)) (c .loop-r .inv)
-      (new-one _ _ _ _ (c .add-s .ensures .place) (c .add-s .ensures .count) (c .add-s .ensures .grown) (c .add-s .ensures .new ∙ rw (c .cell-x .ensures, c .cell-y .ensures) (compared-is (cell (c .args .asked .lists .now) (plan-of (c .args .p .left) (c .args .asked .shapes .now) (c .args .p .parts .now)) (c .args .i) a) (cell (c .args .asked .lists .now) (plan-of (c .args .q .left) (c .args .asked .shapes .now) (c .args .q .parts .now)) (c .args .j) a) x y)))
-      (new-one _ _ _ _ (c .add-e .ensures .place) (c .add-e .ensures .count) (c .add-e .ensures .grown) (c .add-e .ensures .new))
+    (c .args .nodes .now) (c .loop-r .nodes) (c .add-s .last .nodes) (c .add-e .last .nodes)
+    (omega (arith, n .width)) (omega (arith, n .width)) (c .loop-r .inv)
+    (new-one _ _ _ _ (c .add-s .ensures .place) (c .add-s .ensures .count) (c .add-s .ensures .grown) (c .add-s .ensures .new ∙ rw (c .cell-x .ensures, c .cell-y .ensures) (compared-is (cell (c .args .asked .lists .now) (plan-of (c .args .p .left) (c .args .asked .shapes .now) (c .args .p .parts .now)) (c .args .i) a) (cell (c .args .asked .lists .now) (plan-of (c .args .q .left) (c .args .asked .shapes .now) (c .args .q .parts .now)) (c .args .j) a) x y)))
+    (new-one _ _ _ _ (c .add-e .ensures .place) (c .add-e .ensures .count) (c .add-e .ensures .grown) (c .add-e .ensures .new))
 
 pub returns : need.returns
 returns c =
     let n = numbers (c .pre .first .0) (c .part-width .ensures) in
     new-as (2 * c .loop-r .r) (2 * wide (plan-of (c .args .p .left) (c .args .asked .shapes .now) (c .args .p .parts .now))) (c .loop-r .e) _ _ (c .args .nodes .now) (c .loop-r .nodes) (omega (arith, n .width))
-      (equals-all (wide (plan-of (c .args .p .left) (c .args .asked .shapes .now) (c .args .p .parts .now))) (c .loop-r .r) (cell (c .args .asked .lists .now) (plan-of (c .args .p .left) (c .args .asked .shapes .now) (c .args .p .parts .now)) (c .args .i)) (cell (c .args .asked .lists .now) (plan-of (c .args .q .left) (c .args .asked .shapes .now) (c .args .q .parts .now)) (c .args .j)) (omega (arith, n .width)) (omega (arith, n .width))) (c .loop-r .inv)
+    (equals-all (wide (plan-of (c .args .p .left) (c .args .asked .shapes .now) (c .args .p .parts .now))) (c .loop-r .r) (cell (c .args .asked .lists .now) (plan-of (c .args .p .left) (c .args .asked .shapes .now) (c .args .p .parts .now)) (c .args .i)) (cell (c .args .asked .lists .now) (plan-of (c .args .q .left) (c .args .asked .shapes .now) (c .args .q .parts .now)) (c .args .j)) (omega (arith, n .width)) (omega (arith, n .width))) (c .loop-r .inv)

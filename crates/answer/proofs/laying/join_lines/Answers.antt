@@ -44,9 +44,9 @@ loop-i-again c =
     let n = numbers (c .pre .first .0) (c .part-n .ensures) in let m = numbers (c .pre .second .0) (c .part-m .ensures) in
     let g = pair-in (c .loop-i .i) (c .part-n .result .lines) (c .part-m .result .lines) (c .loop-i-test .taken) in
     join-more (c .args .asked .lists .now) (plan-of (c .args .p .left) (c .args .asked .shapes .now) (c .args .p .parts .now)) (c .args .p .base) (plan-of (c .args .q .left) (c .args .asked .shapes .now) (c .args .q .parts .now)) (c .args .q .base) (c .loop-i .i) (c .place-c .result) (c .place-d .result) (c .part-m .result .lines) (c .add .result) (c .args .nodes .now) (c .loop-i .nodes) (c .add .last .nodes)
-      (m .lines) (c .loop-i .inv) (c .place-c .ensures) (c .place-d .ensures)
-      (c .pre .first .1 .stand _ (omega (arith, n .lines))) (c .pre .second .1 .stand _ (omega (arith, m .lines)))
-      (c .add .ensures .place) (new-one _ _ _ _ (c .add .ensures .place) (c .add .ensures .count) (c .add .ensures .grown) (c .add .ensures .new))
+    (m .lines) (c .loop-i .inv) (c .place-c .ensures) (c .place-d .ensures)
+    (c .pre .first .1 .stand _ (omega (arith, n .lines))) (c .pre .second .1 .stand _ (omega (arith, m .lines)))
+    (c .add .ensures .place) (new-one _ _ _ _ (c .add .ensures .place) (c .add .ensures .count) (c .add .ensures .grown) (c .add .ensures .new))
 
 pub returns : need.returns
 returns c =

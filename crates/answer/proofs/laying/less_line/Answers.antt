@@ -25,15 +25,19 @@ spare-c-requires c κs =
       based = based-grown (c .args .asked .first) (c .args .nodes .now) (c .loop-j .nodes) g (c .pre .based);
       first = (c .pre .first .0, c .pre .first .1 .1);
       second = (c .pre .second .0, (ready-more (c .args .asked .lists .now) (c .args .asked .first) (plan-of (c .args .q .left) (c .args .asked .shapes .now) (c .args .q .parts .now)) (c .args .q .base) _ _ (g .more) (c .pre .second .1), l));
-      width = c .pre .width; stands = c .loop-j .inv .0 .within;
-      room = omega (arith, c .loop-j .inv .0 .more, g .long) }
+      width = c .pre .width;
+      stands = c .loop-j .inv .0 .within;
+      room = omega (arith, c .loop-j .inv .0 .more, g .long);
+    }
 
 pub loop-j-again : need.loop-j-again
 loop-j-again c =
     let m = numbers (c .pre .second .0) (c .part-m .ensures) in
-    let l : c .loop-j .j < many (plan-of (c .args .q .left) (c .args .asked .shapes .now) (c .args .q .parts .now)) = omega (arith, m .lines) in
-    (less-more (c .args .asked .lists .now) (plan-of (c .args .p .left) (c .args .asked .shapes .now) (c .args .p .parts .now)) (c .args .p .base) (plan-of (c .args .q .left) (c .args .asked .shapes .now) (c .args .q .parts .now)) (c .args .q .base) (c .args .i) (c .loop-j .j) (c .loop-j .c) (c .spare-c .result) (c .args .nodes .now) (c .loop-j .nodes) (c .spare-c .last .nodes)
-      (c .pre .second .1 .stand (c .loop-j .j) l) (c .loop-j .inv .0) (c .spare-c .ensures .new), λ z. c .spare-c .ensures .last)
+    let l : c .loop-j .j < many (plan-of (c .args .q .left) (c .args .asked .shapes .now) (c .args .q .parts .now)) = omega (arith, m .lines) in (
+      less-more (c .args .asked .lists .now) (plan-of (c .args .p .left) (c .args .asked .shapes .now) (c .args .p .parts .now)) (c .args .p .base) (plan-of (c .args .q .left) (c .args .asked .shapes .now) (c .args .q .parts .now)) (c .args .q .base) (c .args .i) (c .loop-j .j) (c .loop-j .c) (c .spare-c .result) (c .args .nodes .now) (c .loop-j .nodes) (c .spare-c .last .nodes)
+          (c .pre .second .1 .stand (c .loop-j .j) l) (c .loop-j .inv .0) (c .spare-c .ensures .new),
+      λ z. c .spare-c .ensures .last,
+    )
 
 pub returns : need.returns
 returns c =

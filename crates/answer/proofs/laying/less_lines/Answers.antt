@@ -22,8 +22,10 @@ less-line-requires c κs =
       based = based-grown (c .args .asked .first) (c .args .nodes .now) (c .loop-i .nodes) g (c .pre .based);
       first = (c .pre .first .0, (ready-more (c .args .asked .lists .now) (c .args .asked .first) (plan-of (c .args .p .left) (c .args .asked .shapes .now) (c .args .p .parts .now)) (c .args .p .base) _ _ (g .more) (c .pre .first .1), l));
       second = (c .pre .second .0, ready-more (c .args .asked .lists .now) (c .args .asked .first) (plan-of (c .args .q .left) (c .args .asked .shapes .now) (c .args .q .parts .now)) (c .args .q .base) _ _ (g .more) (c .pre .second .1));
-      width = c .pre .width; some = c .pre .some;
-      room = omega (arith, c .loop-i .inv .more, g .long) }
+      width = c .pre .width;
+      some = c .pre .some;
+      room = omega (arith, c .loop-i .inv .more, g .long);
+    }
 
 pub loop-i-again : need.loop-i-again
 loop-i-again c =

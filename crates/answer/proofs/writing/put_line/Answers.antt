@@ -30,4 +30,4 @@ returns c =
     let n = numbers (c .pre .sound) (c .part-width .ensures) in
     let e : c .loop-a .a ≡ wide (plan-of (c .args .side .left) (c .args .asked .shapes .now) (c .args .side .parts .now)) = omega (arith, n .width) in
     put-set (place (c .args .asked .lists .now) (plan-of (c .args .side .left) (c .args .asked .shapes .now) (c .args .side .parts .now)) (c .args .side .base) (c .args .i)) (c .place .result) (cell (c .args .asked .lists .now) (plan-of (c .args .side .left) (c .args .asked .shapes .now) (c .args .side .parts .now)) (c .args .i)) (wide (plan-of (c .args .side .left) (c .args .asked .shapes .now) (c .args .side .parts .now))) (c .args .at) (c .args .out .now) (c .loop-a .out)
-      (subst (λ w. Put (place (c .args .asked .lists .now) (plan-of (c .args .side .left) (c .args .asked .shapes .now) (c .args .side .parts .now)) (c .args .side .base) (c .args .i)) (cell (c .args .asked .lists .now) (plan-of (c .args .side .left) (c .args .asked .shapes .now) (c .args .side .parts .now)) (c .args .i)) w (c .args .at) (set (c .args .out .now) (c .args .at) (c .place .result)) (c .loop-a .out)) e (c .loop-a .inv))
+    (subst (λ w. Put (place (c .args .asked .lists .now) (plan-of (c .args .side .left) (c .args .asked .shapes .now) (c .args .side .parts .now)) (c .args .side .base) (c .args .i)) (cell (c .args .asked .lists .now) (plan-of (c .args .side .left) (c .args .asked .shapes .now) (c .args .side .parts .now)) (c .args .i)) w (c .args .at) (set (c .args .out .now) (c .args .at) (c .place .result)) (c .loop-a .out)) e (c .loop-a .inv))

@@ -29,14 +29,18 @@ pub put-line-requires : need.put-line-requires
 put-line-requires c κs =
     let n = numbers (c .pre .sound) (c .part-here .ensures) in
     let l : c .loop-i .i < many (plan-of (c .args .side .left) (c .args .asked .shapes .now) (c .args .side .parts .now)) = omega (arith, n .lines) in
-    record { sound = c .pre .sound; low = c .pre .low; line = l;
-      room = rw (n .width) (omega (arith, c .loop-i .inv .long, c .pre .room, row (c .loop-i .i) (many (plan-of (c .args .side .left) (c .args .asked .shapes .now) (c .args .side .parts .now))) (line-size (wide (plan-of (c .args .side .left) (c .args .asked .shapes .now) (c .args .side .parts .now)))) l)) }
+    record {
+      sound = c .pre .sound;
+      low = c .pre .low;
+      line = l;
+      room = rw (n .width) (omega (arith, c .loop-i .inv .long, c .pre .room, row (c .loop-i .i) (many (plan-of (c .args .side .left) (c .args .asked .shapes .now) (c .args .side .parts .now))) (line-size (wide (plan-of (c .args .side .left) (c .args .asked .shapes .now) (c .args .side .parts .now)))) l));
+    }
 
 pub loop-i-again : need.loop-i-again
 loop-i-again c =
     let n = numbers (c .pre .sound) (c .part-here .ensures) in
     written-more (place (c .args .asked .lists .now) (plan-of (c .args .side .left) (c .args .asked .shapes .now) (c .args .side .parts .now)) (c .args .side .base)) (cell (c .args .asked .lists .now) (plan-of (c .args .side .left) (c .args .asked .shapes .now) (c .args .side .parts .now))) (wide (plan-of (c .args .side .left) (c .args .asked .shapes .now) (c .args .side .parts .now))) (c .loop-i .i) (c .args .out .now) (c .loop-i .out) (c .put-line .last .out) (c .loop-i .inv)
-      (subst (λ v. Put (place (c .args .asked .lists .now) (plan-of (c .args .side .left) (c .args .asked .shapes .now) (c .args .side .parts .now)) (c .args .side .base) (c .loop-i .i)) (cell (c .args .asked .lists .now) (plan-of (c .args .side .left) (c .args .asked .shapes .now) (c .args .side .parts .now)) (c .loop-i .i)) (wide (plan-of (c .args .side .left) (c .args .asked .shapes .now) (c .args .side .parts .now))) (c .loop-i .i * (1 + 2 * v)) (c .loop-i .out) (c .put-line .last .out)) (n .width) (c .put-line .ensures))
+    (subst (λ v. Put (place (c .args .asked .lists .now) (plan-of (c .args .side .left) (c .args .asked .shapes .now) (c .args .side .parts .now)) (c .args .side .base) (c .loop-i .i)) (cell (c .args .asked .lists .now) (plan-of (c .args .side .left) (c .args .asked .shapes .now) (c .args .side .parts .now)) (c .loop-i .i)) (wide (plan-of (c .args .side .left) (c .args .asked .shapes .now) (c .args .side .parts .now))) (c .loop-i .i * (1 + 2 * v)) (c .loop-i .out) (c .put-line .last .out)) (n .width) (c .put-line .ensures))
 
 pub returns : need.returns
 returns c =
