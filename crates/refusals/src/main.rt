@@ -1,4 +1,6 @@
 // Bad input of every kind, and what the libraries tell of it: one line a case, with the number and the place.
+use answer::Reply;
+use answer::ask;
 use bytes::Input;
 use bytes::read_lists;
 use bytes::read_nodes;
@@ -19,6 +21,7 @@ use list::check;
 use list::check_lists;
 use query::Question;
 use std::alloc::Global;
+use std::error::AnyError;
 use std::io;
 
 const MOST: u64 = u64::MAX;
@@ -240,20 +243,28 @@ const FILE: [u8; 48] = [
     0,
 ];
 
-fn main(rt: LibcRuntime) -> io::Result<()> {
-    lists(&rt)?;
-    cut_lists(&rt)?;
-    stores(&rt)?;
-    nodes(&rt, rt.alloc())?;
-    words(&rt)?;
-    named(&rt)?;
-    files(&rt, rt.alloc())?;
-    file_bounds(&rt, rt.alloc())?;
-    questions(&rt)?;
-    columns(&rt)?;
-    cut_questions(&rt)?;
-    long_questions(&rt)?;
-    large_question(&rt)
+// The list of 64 lines joined with itself: 4,096 lines, which cost as much.
+const SQUARE: [u64; 18] = [6, 0, 0, 0, 0, 0, 0, 0, 0, 0, 0, 0, 0, 0, 0, 0, 0, 0];
+
+fn main(rt: LibcRuntime) -> Result<(), AnyError> {
+    rt.report(run(&rt))
+}
+
+fn run(rt: &LibcRuntime) -> Result<(), AnyError> {
+    lists(rt)?;
+    cut_lists(rt)?;
+    stores(rt)?;
+    nodes(rt, rt.alloc())?;
+    words(rt)?;
+    named(rt)?;
+    files(rt, rt.alloc())?;
+    file_bounds(rt, rt.alloc())?;
+    questions(rt)?;
+    columns(rt)?;
+    cut_questions(rt)?;
+    long_questions(rt)?;
+    large_question(rt)?;
+    bounds(rt, rt.alloc())
 }
 
 // A number that was answered, or what was refused.
@@ -460,31 +471,31 @@ fn lines(lists: &[u64], signs: &[u64]) -> Result<u64, Refusal> {
 }
 
 // What is told of a question's signs on the baptisms and marriages.
-fn ask(rt: &LibcRuntime, case: &str, signs: &[u64]) -> io::Result<()> {
+fn question(rt: &LibcRuntime, case: &str, signs: &[u64]) -> io::Result<()> {
     tell(rt, case, lines(&LISTS, signs))
 }
 
 fn questions(rt: &LibcRuntime) -> io::Result<()> {
-    ask(rt, "question", &MOTHERS)?;
-    ask(rt, "no signs", &[])?;
-    ask(rt, "kind 9", &[9, 0, 0, 0, 0, 0])?;
-    ask(rt, "a very high kind", &[MOST, 0, 0, 0, 0, 0])?;
-    ask(rt, "list 2", &[0, 2, 0, 0, 0, 0])?;
-    ask(rt, "a very high list", &[0, MOST, 0, 0, 0, 0])?;
-    ask(rt, "a surplus sign", &[0, 0, 0, 0, 0, 0, 0, 0, 0, 0, 0, 0])?;
-    ask(rt, "a surplus number", &[0, 0, 0, 0, 0, 0, 0])?;
+    question(rt, "question", &MOTHERS)?;
+    question(rt, "no signs", &[])?;
+    question(rt, "kind 9", &[9, 0, 0, 0, 0, 0])?;
+    question(rt, "a very high kind", &[MOST, 0, 0, 0, 0, 0])?;
+    question(rt, "list 2", &[0, 2, 0, 0, 0, 0])?;
+    question(rt, "a very high list", &[0, MOST, 0, 0, 0, 0])?;
+    question(rt, "a surplus sign", &[0, 0, 0, 0, 0, 0, 0, 0, 0, 0, 0, 0])?;
+    question(rt, "a surplus number", &[0, 0, 0, 0, 0, 0, 0])?;
     tell(rt, "of no lists", lines(&[], &MOTHERS))
 }
 
 fn columns(rt: &LibcRuntime) -> io::Result<()> {
-    ask(rt, "column 2 of two", &[3, 2, 7, 0, 0, 0, 0, 0, 0, 0, 0, 0])?;
-    ask(rt, "no columns", &[5, 0, 0, 0, 0, 0, 0, 0, 0, 0, 0, 0])?;
-    ask(
+    question(rt, "column 2 of two", &[3, 2, 7, 0, 0, 0, 0, 0, 0, 0, 0, 0])?;
+    question(rt, "no columns", &[5, 0, 0, 0, 0, 0, 0, 0, 0, 0, 0, 0])?;
+    question(
         rt,
         "very many columns",
         &[5, MOST, 0, 0, 0, 0, 0, 0, 0, 0, 0, 0],
     )?;
-    ask(
+    question(
         rt,
         "a bad list under a bad column",
         &[5, 1, 9, 0, 0, 0, 0, 9, 0, 0, 0, 0],
@@ -515,7 +526,7 @@ fn columns(rt: &LibcRuntime) -> io::Result<()> {
         0,
         0,
     ];
-    ask(rt, "lists of other widths", &unequal)
+    question(rt, "lists of other widths", &unequal)
 }
 
 // A question cut at every length.
@@ -558,4 +569,128 @@ fn large_question(rt: &LibcRuntime) -> io::Result<()> {
         Err(refusal) => tell(rt, "not read", Err(refusal))?,
     }
     tell(rt, "twice", lines(&lists, &signs[36..54]))
+}
+
+// Lists of 64 lines, of three, of one and of two, all of one column and under node 0.
+fn long_lists() -> [u64; 220] {
+    let mut lists = [0u64; 220];
+    lists[0] = 4;
+    lists[2] = 64;
+    lists[3] = 1;
+    lists[196] = 3;
+    lists[197] = 1;
+    lists[207] = 1;
+    lists[208] = 1;
+    lists[212] = 2;
+    lists[213] = 1;
+    lists
+}
+
+// What asking tells in a slice for so many nodes, of which some stand already, and one of so many numbers for the answer.
+fn bound(
+    rt: &LibcRuntime,
+    heap: Global,
+    case: &str,
+    signs: &[u64],
+    stand: u64,
+    nodes: usize,
+    numbers: usize,
+) -> Result<(), AnyError> {
+    let mut store = vec![in heap; 0u64; nodes.saturating_mul(5).saturating_add(1)]?;
+    if let Some(count) = store.as_mut_slice().first_mut() {
+        *count = stand;
+    }
+    let mut out = vec![in heap; MOST; numbers]?;
+    let lists = long_lists();
+    match ask(&lists, signs, store.as_mut_slice(), out.as_mut_slice()) {
+        Reply::Done(lines) => tell(rt, case, Ok(lines))?,
+        Reply::Refused(refusal) => tell(rt, case, Err(refusal))?,
+    }
+    let count = store.as_slice().first().copied().unwrap_or(0);
+    let unwritten = unwritten(out.as_slice());
+    println!(rt, "  then {count} nodes, {unwritten} numbers not written")?;
+    Ok(())
+}
+
+// How many numbers of an answer's slice are still the one that it was filled with.
+fn unwritten(numbers: &[u64]) -> u64 {
+    let mut count = 0u64;
+    for n in numbers {
+        if *n == MOST {
+            count = count.saturating_add(1);
+        }
+    }
+    count
+}
+
+// Asking at its bounds, and one past them.
+fn bounds(rt: &LibcRuntime, heap: Global) -> Result<(), AnyError> {
+    bound(rt, heap, "4,096 lines", &SQUARE, 1, 4099, 20480)?;
+    bound(
+        rt,
+        heap,
+        "an answer too short by one",
+        &SQUARE,
+        1,
+        4099,
+        20479,
+    )?;
+    bound(
+        rt,
+        heap,
+        "a store too short by one",
+        &SQUARE,
+        1,
+        4098,
+        20480,
+    )?;
+    bound(
+        rt,
+        heap,
+        "a longer store and answer",
+        &SQUARE,
+        1,
+        5000,
+        20490,
+    )?;
+    bound(
+        rt,
+        heap,
+        "just below 131,072 nodes",
+        &SQUARE,
+        126974,
+        131080,
+        20480,
+    )?;
+    bound(rt, heap, "one more stands", &SQUARE, 126975, 131080, 20480)?;
+    costly(rt, heap)
+}
+
+// One cell of each line of the square, less the list of three lines: cost 65,536; and less three lines that cost one more.
+fn costly(rt: &LibcRuntime, heap: Global) -> Result<(), AnyError> {
+    let mut signs = [0u64; 66];
+    signs[0] = 8;
+    signs[6] = 5;
+    signs[7] = 1;
+    signs[12] = 6;
+    signs[31] = 1;
+    bound(rt, heap, "cost 65,536", &signs[0..36], 1, 65539, 12288)?;
+    bound(
+        rt,
+        heap,
+        "a store too short by one",
+        &signs[0..36],
+        1,
+        65538,
+        12288,
+    )?;
+    signs[30] = 7;
+    signs[31] = 0;
+    signs[37] = 3;
+    signs[42] = 5;
+    signs[43] = 1;
+    signs[48] = 6;
+    signs[55] = 2;
+    signs[61] = 2;
+    bound(rt, heap, "cost 65,537", &signs, 1, 70000, 12288)
 }
