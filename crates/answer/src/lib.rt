@@ -2,6 +2,8 @@
 //
 // The answer to a question is a list with gaps of its own. Filled in any way that fits what is known, it has exactly the rows
 // that the question gives on the lists so filled.
+#![tactic(auto)]
+
 ghost use Rattle.answer.specs.Promise.{AnswerRight, AnswerExact, AskedFirst, SameAnswer, MoreKnown, NothingLeft, SureInOne};
 ghost use Rattle.answer.specs.Numbers.{SameNumber};
 ghost use Rattle.answer.specs.Baptisms.{Table, FalseAnswers};

@@ -1,4 +1,6 @@
 // Answers a file of questions on lists with gaps, read from standard input.
+#![tactic(auto)]
+
 use answer::{Reply, ask};
 use bytes::{Input, read_lists, read_nodes};
 use condition::{Condition, Refusal, cell_at};

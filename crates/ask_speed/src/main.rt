@@ -1,4 +1,6 @@
 // How large the answers to large questions are; and, where the argument is `time`, how long asking takes for each unit of cost.
+#![tactic(auto)]
+
 use answer::{Reply, ask};
 use anyhow::anyhow;
 use condition::Refusal;

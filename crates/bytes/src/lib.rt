@@ -1,4 +1,6 @@
 // The binary format of the programs: numbers of four bytes, lists, nodes.
+#![tactic(auto)]
+
 ghost use Rattle.std.specs.Prelude.{◌≡◌, ◌*◌, ◌≤◌, [], ◌∷◌, length, IfOk, OnOk, slice_index};
 ghost use Rattle.bytes.specs.Numbers.{number_at, Taken, ReadOn, ReadSome};
 

@@ -3,7 +3,7 @@ use Rattle.std.proofs.Common.{◌≡◌, ℕ, zero, suc, ◌+◌, ◌-◌, ◌*�
 use borrow.Rule.Slice.PartMut.{put_mid}
 use Rattle.std.proofs.lemmas.List.{drop_all, append-nil, get_or_append_left, get_or-append_right, get_or-take, get_or-drop, get_or-set_same, get_or-set_other, length-append, length-set}
 use Rattle.condition.specs.Cond.{Cond}
-use Rattle.condition.specs.Store.{node, earlier, cond_deep, count, cond_at, Grown}
+use Rattle.condition.specs.Store.{node, cond_deep, count, cond_at, Grown}
 use Rattle.condition.specs.Shapes.{node_of, Named}
 use Rattle.condition.specs.Nodes.{node_from, decoded, five, Added}
 use Rattle.condition.specs.declared.Cell.TheVariants.{Number, Gap}

@@ -1,12 +1,11 @@
 -- Laws of reading numbers as cells and nodes.
-use Rattle.std.proofs.Common.{◌≡◌, ℕ, zero, suc, ◌+◌, ◌*◌, ◌<◌, ◌≤◌, Bool, true, false, cond as if, ◌&&◌, ltb, List, length, get_or, drop, sym, refl, ap, ◌∙◌}
+use Rattle.std.proofs.Common.{◌≡◌, ℕ, zero, suc, ◌+◌, ◌*◌, ◌<◌, Bool, true, false, ◌&&◌, ltb, List, get_or, drop, sym, refl, ap, ◌∙◌}
 use Rattle.std.proofs.lemmas.Bool.{and_parts}
 use Rattle.condition.specs.Cond.{Cond}
 use Rattle.condition.specs.Store.{cell_in, comparison, has_name, node, node_in, earlier, count, cond_at}
 use Rattle.condition.specs.Shapes.{cell_of, node_of}
 use Rattle.condition.specs.Nodes.{cell_from, compared, node_from, decoded, behind, StandsAs}
 use Rattle.condition.specs.declared.Cell.{Cell}
-use Rattle.condition.specs.declared.Cell.TheVariants.{Number, Gap}
 use Rattle.condition.specs.declared.Node.{Node}
 use Rattle.condition.specs.declared.Node.TheVariants.{Always, Never, Equal, Not, Both, Either}
 use Rattle.condition.proofs.Fuel.{at_unrolled, node_behind}

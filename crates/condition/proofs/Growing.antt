@@ -1,8 +1,7 @@
 -- Laws of `Grown`: what stands in a grown store, and growing again.
-use Rattle.std.proofs.Common.{◌≡◌, ℕ, suc, ◌+◌, ◌*◌, ◌<◌, ◌≤◌, List, length, get_or, drop, sym, refl, ap, ◌∙◌, arith}
+use Rattle.std.proofs.Common.{◌≡◌, ℕ, suc, ◌+◌, ◌*◌, ◌<◌, ◌≤◌, List, length, get_or, drop, sym, refl, ◌∙◌, arith}
 use Rattle.std.proofs.lemmas.List.{get_or-drop}
-use Rattle.condition.specs.Cond.{Cond}
-use Rattle.condition.specs.Store.{cond_deep, count, cond_at, Grown}
+use Rattle.condition.specs.Store.{count, cond_at, Grown}
 use Rattle.condition.proofs.Fuel.{deep_same, at_within}
 
 -- a store that holds its nodes has grown by none

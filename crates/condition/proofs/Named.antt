@@ -1,5 +1,5 @@
 -- The cells of a condition, and the numbers and gaps that stand in them.
-use Rattle.std.proofs.Common.{◌≡◌, ℕ, Bool, true, false, ◌||◌, ◌⊎◌, List, [], ◌∷◌, ◌++◌, sym, refl, ap, ◌∙◌, inl, inr, arith}
+use Rattle.std.proofs.Common.{◌≡◌, ℕ, true, ◌⊎◌, List, [], ◌∷◌, ◌++◌, refl, inl, inr, arith}
 use Rattle.condition.specs.Cond.{Cell, known, gap, numbers_in, gaps_in, has}
 use Rattle.condition.proofs.Lists.{has_head, has_tail}
 

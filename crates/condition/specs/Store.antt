@@ -7,7 +7,7 @@
 --   stands nodes i       whether node i stands in a store
 --   room nodes           how many more nodes fit
 --   Grown xs ys          ys is the store xs with nodes added behind those that stood
-use Rattle.std.specs.Prelude.{◌≡◌, ℕ, zero, suc, ◌+◌, ◌-◌, ◌*◌, ◌/◌, ◌<◌, ◌≤◌, min, Bool, true, false, cond as if, ◌&&◌, List, length, drop, nat_le, nat_lt, slice_index}
+use Rattle.std.specs.Prelude.{◌≡◌, ℕ, zero, suc, ◌+◌, ◌-◌, ◌*◌, ◌/◌, ◌<◌, ◌≤◌, min, Bool, true, cond as if, ◌&&◌, List, length, drop, nat_le, nat_lt, slice_index}
 use Rattle.condition.specs.Cond.{Cell, known, gap, Cond, always, never, equal, not_so, both, either}
 use Rattle.condition.specs.Refusals.{Told, unless}
 

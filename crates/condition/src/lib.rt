@@ -2,6 +2,8 @@
 //
 // A store is the count of its nodes and then five numbers a node. Numbers are turned into `Cell` and `Node` here and
 // nowhere else.
+#![tactic(auto)]
+
 ghost use Rattle.std.specs.Prelude.{◌≡◌};
 ghost use Rattle.condition.specs.Refusals.{told};
 ghost use Rattle.condition.specs.declared.Refusal.TheVariants.{NoMemory};

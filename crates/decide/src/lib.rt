@@ -1,4 +1,6 @@
 // Deciding which rows are sure and which are possible.
+#![tactic(auto)]
+
 ghost use Rattle.std.specs.Prelude.{◌≡◌};
 ghost use Rattle.decide.specs.Standing.{standing, is_sure, is_possible};
 ghost use Rattle.decide.specs.Deciding.{ByCondition, DecidingEnough, SureByName, DecidedWithin64Bits};

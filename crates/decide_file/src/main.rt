@@ -1,5 +1,7 @@
 // Decides a condition given as text on standard input: whether some filling meets what is known and what is shown, and whether some
 // meets what is known and not what is shown.
+#![tactic(auto)]
+
 mod text;
 
 use anyhow::anyhow;

@@ -1,4 +1,6 @@
 // Fillings of the gaps, and conditions under them.
+#![tactic(auto)]
+
 ghost use Rattle.std.specs.Prelude.{◌≡◌, ℕ, ◌<◌, ◌≤◌, IfSome, MatchOption};
 ghost use Rattle.condition.specs.Shapes.{cell_of};
 ghost use Rattle.evaluate.specs.Filling.{fill_cell, put};

@@ -1,4 +1,6 @@
 // Learning: what is known grows.
+#![tactic(auto)]
+
 ghost use Rattle.learn.specs.Learning.{WrittenOver};
 
 // A learned number may be written over its gap before asking or after: see specs/Learning.antt.

@@ -1,5 +1,7 @@
 // Lists with gaps in a slice of numbers: the count of lists, the node of what is known, and for each list its lines, its
 // columns, and then line by line the node of the line's condition and two numbers a cell.
+#![tactic(auto)]
+
 ghost use Rattle.std.specs.Prelude.{◌≡◌, ◌≤◌, IfOk, slice_index};
 ghost use Rattle.condition.specs.Refusals.{outcome};
 ghost use Rattle.list.specs.Layout.{check_told};

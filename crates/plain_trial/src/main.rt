@@ -1,5 +1,7 @@
 // Answers the file of ask_file by plain trial of all fillings, and shares no code with the libraries: what it prints is held beside
 // what ask_file prints.
+#![tactic(auto)]
+
 mod naming;
 mod questions;
 mod reading;

@@ -1,4 +1,6 @@
 // Questions: signs in a slice of numbers, and what they ask of filled lists.
+#![tactic(auto)]
+
 ghost use Rattle.query.specs.Reading.{FewLines};
 
 mod asking;

@@ -1,4 +1,6 @@
 // Bad input of every kind, and what the libraries tell of it: one line a case, with the number and the place.
+#![tactic(auto)]
+
 use answer::{Reply, ask};
 use bytes::{Input, read_lists, read_nodes};
 use condition::{Cell, Condition, Node, Refusal, append, find, read_node, room, store_count};

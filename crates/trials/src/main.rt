@@ -1,5 +1,7 @@
 // Random lists, conditions and questions: under every filling from a small range that fits what is known, the answer's rows beside
 // those that the question gives on the filled lists.
+#![tactic(auto)]
+
 use answer::{Reply, ask};
 use condition::{Refusal, cell_at};
 use evaluate::{Filling, holds_at};

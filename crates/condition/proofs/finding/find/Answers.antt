@@ -1,6 +1,5 @@
-use Rattle.std.proofs.Common.{◌≡◌, ◌<◌, sym, ◌∙◌, arith, below_more}
+use Rattle.std.proofs.Common.{sym, ◌∙◌, arith, below_more}
 use Rattle.std.proofs.lemmas.Bool.{both_ways}
-use Rattle.condition.specs.Store.{count}
 use Rattle.condition.specs.Nodes.{StandsAs}
 use Rattle.condition.proofs.Decoding.{stands_means}
 use Rattle.condition.proofs.Standing.{fits_from}
@@ -22,7 +21,7 @@ returns-then-same c =
 
 pub loop-i-preserved : goal.loop-i-preserved
 loop-i-preserved c = below_more _ _ c.loop-i.invariant (λ s. elim c.else-behind.branch [
-  | else-behind-via-then-behind+else-same w ↦ both_ways w.same.result w.if-same.false (w.same.ensures.1 (w.node-at.ensures.read ∙ s.same))
+  | else-behind-via-then-behind+else-same w ↦ both_ways w.same.result w.if-same.false (w.same.ensures.1 (w.node_at.ensures.read ∙ s.same))
   | else-behind-via-else-behind w ↦ both_ways c.behind.result w.if-behind.false (c.behind.ensures ∙ s.after)
 ])
 
