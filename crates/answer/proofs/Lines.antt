@@ -51,7 +51,7 @@ some_tab [] w f h = refl
 some_tab (p ∷ ps) w f h = rw (getD_tab w f p (known 0) (h 0 (omega arith)), some_tab ps w f (λ a l. h (suc a) (omega arith))) refl
 
 abbrev beside : Line → Line → Line
-beside l m = record { cells = l.cells ++ m.cells; if_so = both l.if-so m.if-so }
+beside l m = record { cells = l.cells ++ m.cells; if_so = both l.if_so m.if_so }
 
 beside_tab : (l : Line) (n : ℕ) (f : ℕ → Line) → line_beside l (tab n f) ≡ tab n (λ i. beside l (f i))
 unfolding line_beside tab

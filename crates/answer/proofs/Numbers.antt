@@ -65,8 +65,8 @@ same_reads (suc n) ss m at (k ∷ xs) p =
     (same_kind n ss at m (λ i ys q. same_reads n ss m i ys q) k xs (simp length-drop (omega arith)))
 
 -- the tests of the lists
-lists_same : (k : ℕ) (xs : List ℕ) → plain.lists-fit k xs ≡ eqb (passing list_fits k xs) k
-unfolding plain.lists-fit passing list_fits
+lists_same : (k : ℕ) (xs : List ℕ) → plain.lists_fit k xs ≡ eqb (passing list_fits k xs) k
+unfolding plain.lists_fit passing list_fits
 lists_same zero xs = refl
 lists_same (suc k) xs = let ih = lists_same k (drop (list_size xs) xs) in grind (arith, nat_tests)
 
@@ -198,7 +198,7 @@ like_named P true false p later n h = inr (inl refl)
 like_named P false b p later n h = inr (inl refl)
 
 sizes : (nodes out : List ℕ) (r : Read) →
-    rest_refusal nodes out (plain.lines_of (unplaced r)) (plain.width_of (unplaced r)) (plain.cost-of (unplaced r))
+    rest_refusal nodes out (plain.lines_of (unplaced r)) (plain.width_of (unplaced r)) (plain.cost_of (unplaced r))
     ≡ rest_refusal nodes out (sized r).lines (sized r).width (sized r).cost
 sizes nodes out (read s next rest) = refl
 sizes nodes out (bad sign) = refl
@@ -206,7 +206,7 @@ sizes nodes out (bad sign) = refl
 like_question : (lists signs nodes out : List ℕ) → 1 + 5 * count nodes ≤ length nodes →
     Like (131072 < count nodes + (question lists signs).cost + 2)
     (number (first (question_told (asked lists signs) signs) (rest_told nodes out (question lists signs))))
-    (if (whole_signs lists signs) (rest_refusal nodes out (plain.lines_of (plain.asked lists signs)) (plain.width_of (plain.asked lists signs)) (plain.cost-of (plain.asked lists signs))) 4)
+    (if (whole_signs lists signs) (rest_refusal nodes out (plain.lines_of (plain.asked lists signs)) (plain.width_of (plain.asked lists signs)) (plain.cost_of (plain.asked lists signs))) 4)
 like_question lists signs nodes out l = elim (question_number lists signs (rest_told nodes out (question lists signs))) [
   | inl q ↦ rw (q.0, q.1, q.2, sizes nodes out (asked lists signs)) (⊎_elim inl (λ h. inr (inr h)) (rest_number nodes out (question lists signs) l))
   | inr q ↦ inl (rw (q.0, q.1) refl)

@@ -31,7 +31,7 @@ unfolding filled cut_lines cut_to
 filled_cut v ps [] = refl
 filled_cut v ps (l ∷ ls) = let ih = filled_cut v ps ls in let e = fill_some v ps l.cells in grind arith
 
-filled_beside : (v : Filling) (l : Line) (ms : List Line) → filled v (line_beside l ms) ≡ if (holds v l.if-so) (beside (fill_cells v l.cells) (filled v ms)) []
+filled_beside : (v : Filling) (l : Line) (ms : List Line) → filled v (line_beside l ms) ≡ if (holds v l.if_so) (beside (fill_cells v l.cells) (filled v ms)) []
 unfolding filled line_beside beside holds
 filled_beside v l [] = grind arith
 filled_beside v l (m ∷ ms) = let ih = filled_beside v l ms in let e = fill_app v l.cells m.cells in grind arith
@@ -53,13 +53,13 @@ holds_spared : (v : Filling) (cs : List Cell) (ms : List Line) (c : Cond) → ho
 unfolding holds spared stands filled
 holds_spared v cs [] c = grind arith
 holds_spared v cs (m ∷ ms) c =
-    let ih = holds_spared v cs ms (both c (not_so (both m.if-so (cells_same cs m.cells)))) in
+    let ih = holds_spared v cs ms (both c (not_so (both m.if_so (cells_same cs m.cells)))) in
     let e = holds_same v cs m.cells in grind arith
 
 filled_less : (v : Filling) (ls ms : List Line) → filled v (lines_less ls ms) ≡ less (filled v ls) (filled v ms)
 unfolding filled lines_less less
 filled_less v [] ms = refl
-filled_less v (l ∷ ls) ms = let ih = filled_less v ls ms in let e = holds_spared v l.cells ms l.if-so in grind arith
+filled_less v (l ∷ ls) ms = let ih = filled_less v ls ms in let e = holds_spared v l.cells ms l.if_so in grind arith
 
 pub answer_filled : (v : Filling) (q : Query) (ts : List (List Line)) → filled v (answer q ts) ≡ ask q (all_filled v ts)
 unfolding answer ask

@@ -20,7 +20,7 @@ test_of (is_not a n) cs = not_so (equal (at cs a) (known n))
 
 unfoldable pub tested : Test → List Line → List Line
 tested t [] = []
-tested t (l ∷ ls) = record { cells = l.cells; if_so = both l.if-so (test_of t l.cells) } ∷ tested t ls
+tested t (l ∷ ls) = record { cells = l.cells; if_so = both l.if_so (test_of t l.cells) } ∷ tested t ls
 
 unfoldable pub some_cells : List ℕ → List Cell → List Cell
 some_cells [] cs = []
@@ -28,11 +28,11 @@ some_cells (a ∷ ps) cs = at cs a ∷ some_cells ps cs
 
 unfoldable pub cut_lines : List ℕ → List Line → List Line
 cut_lines ps [] = []
-cut_lines ps (l ∷ ls) = record { cells = some_cells ps l.cells; if_so = l.if-so } ∷ cut_lines ps ls
+cut_lines ps (l ∷ ls) = record { cells = some_cells ps l.cells; if_so = l.if_so } ∷ cut_lines ps ls
 
 unfoldable pub line_beside : Line → List Line → List Line
 line_beside l [] = []
-line_beside l (m ∷ ms) = record { cells = l.cells ++ m.cells; if_so = both l.if-so m.if-so } ∷ line_beside l ms
+line_beside l (m ∷ ms) = record { cells = l.cells ++ m.cells; if_so = both l.if_so m.if_so } ∷ line_beside l ms
 
 unfoldable pub lines_joined : List Line → List Line → List Line
 lines_joined [] ms = []
@@ -46,11 +46,11 @@ cells_same (a ∷ cs) (b ∷ bs) = both (equal a b) (cells_same cs bs)
 
 unfoldable pub spared : List Cell → List Line → Cond → Cond
 spared cs [] c = c
-spared cs (m ∷ ms) c = spared cs ms (both c (not_so (both m.if-so (cells_same cs m.cells))))
+spared cs (m ∷ ms) c = spared cs ms (both c (not_so (both m.if_so (cells_same cs m.cells))))
 
 unfoldable pub lines_less : List Line → List Line → List Line
 lines_less [] ms = []
-lines_less (l ∷ ls) ms = record { cells = l.cells; if_so = spared l.cells ms l.if-so } ∷ lines_less ls ms
+lines_less (l ∷ ls) ms = record { cells = l.cells; if_so = spared l.cells ms l.if_so } ∷ lines_less ls ms
 
 unfoldable pub answer : Query → List (List Line) → List Line
 answer (table t) ts = slice_index_or ts t []

@@ -42,10 +42,10 @@ shows_covered : (ns gs : List ℕ) (ls : List Line) (row : Row) → Covers ns gs
 unfolding shows cells_of conds_in_lines cells_in_lines
 shows_covered ns gs [] row p q r = covers_none ns gs
 shows_covered ns gs (l ∷ ls) row p q r =
-    covers_both ns gs (cells_of l.if-so ++ cells_of (gives l.cells row)) (cells_of (shows ls row))
-    (covers_both ns gs (cells_of l.if-so) (cells_of (gives l.cells row)) (covers_left ns gs (cells_of l.if-so) (conds_in_lines ls) p)
+    covers_both ns gs (cells_of l.if_so ++ cells_of (gives l.cells row)) (cells_of (shows ls row))
+    (covers_both ns gs (cells_of l.if_so) (cells_of (gives l.cells row)) (covers_left ns gs (cells_of l.if_so) (conds_in_lines ls) p)
     (gives_covered ns gs l.cells row (covers_left ns gs l.cells (cells_in_lines ls) q) r))
-    (shows_covered ns gs ls row (covers_right ns gs (cells_of l.if-so) (conds_in_lines ls) p) (covers_right ns gs l.cells (cells_in_lines ls) q) r)
+    (shows_covered ns gs ls row (covers_right ns gs (cells_of l.if_so) (conds_in_lines ls) p) (covers_right ns gs l.cells (cells_in_lines ls) q) r)
 
 pub both_met : (what : Cond) (ls : List Line) (row : Row) → Covers (numbers_met what ls row) (gaps_met what ls) (cells_of (both what (shows ls row)))
 unfolding Within cells_of
@@ -85,7 +85,7 @@ module _ (nodes : List ℕ) (what : Cond) (ls : List Line) (row : Row) (c : ℕ)
   unfolding cells_of Within
   goal_named cone goal d =
       let v : Covers (numbers_met what ls row) (gaps_met what ls) (cells_of (cond_at cone goal.known) ++ cells_of (cond_at cone goal.shows)) =
-      covers_both (numbers_met what ls row) (gaps_met what ls) (cells_of (cond_at cone goal.known)) (cells_of (cond_at cone goal.shows)) d.known-inside d.shows-inside in
+      covers_both (numbers_met what ls row) (gaps_met what ls) (cells_of (cond_at cone goal.known)) (cells_of (cond_at cone goal.shows)) d.known_inside d.shows_inside in
       record {
         low = λ i l. let k : i < m = omega (arith, simp length-take at l) in rw get_or-take (r.below i k);
         gaps = λ k h. gaps_tried k (v.gaps k h);

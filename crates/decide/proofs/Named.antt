@@ -62,7 +62,7 @@ module _ (w : Filling) (n : ℕ) (none : (k : ℕ) → w k ≡ n → ⊥) where
   no_rows (l ∷ ls) r h s =
       let p : (has (numbers_in l.cells) n ≡ false) × (has (numbers_in (cells_in_lines ls)) n ≡ false) =
       lacks_parts (numbers_in l.cells) (numbers_in (cells_in_lines ls)) n (rw (numbers_app l.cells (cells_in_lines ls)) at h) in
-      go (no_cells l.cells p.0) (no_rows ls r p.1) (holds w l.if-so) s
+      go (no_cells l.cells p.0) (no_rows ls r p.1) (holds w l.if_so) s
     where
       here : has (fill_cells w l.cells) n ≡ false → same_row r (fill_cells w l.cells) ≡ true → has r n ≡ false
       here e t = ap (λ (x : Row). has x n) (same_row_is r (fill_cells w l.cells) t) ∙ e

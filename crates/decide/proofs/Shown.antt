@@ -80,9 +80,9 @@ deciding_enough v [] r = refl
 deciding_enough v (l ∷ ls) r = go (deciding_enough v ls r) (agrees l.cells r) refl
   where
     go : holds v (shows (deciding ls r) r) ≡ holds v (shows ls r) → (b : Bool) → agrees l.cells r ≡ b →
-        holds v (shows (if b (l ∷ deciding ls r) (deciding ls r)) r) ≡ (holds v l.if-so && holds v (gives l.cells r) || holds v (shows ls r))
+        holds v (shows (if b (l ∷ deciding ls r) (deciding ls r)) r) ≡ (holds v l.if_so && holds v (gives l.cells r) || holds v (shows ls r))
     go ih true e = rw ih
-    go ih false e = rw (disagree v l.cells r e, and_right (holds v l.if-so) false refl) ih
+    go ih false e = rw (disagree v l.cells r e, and_right (holds v l.if_so) false refl) ih
 
 pub decided_within_64_bits : DecidedWithin64Bits
 unfolding cells_of

@@ -22,7 +22,7 @@ gives (c ∷ cs) (n ∷ ns) = both (equal c (known n)) (gives cs ns)
 
 unfoldable pub shows : List Line → Row → Cond
 shows [] r = never
-shows (l ∷ ls) r = either (both l.if-so (gives l.cells r)) (shows ls r)
+shows (l ∷ ls) r = either (both l.if_so (gives l.cells r)) (shows ls r)
 
 abbrev pub agrees_cell : Cell → ℕ → Bool
 agrees_cell (known m) n = m == n
@@ -45,7 +45,7 @@ cells_in_lines (l ∷ ls) = l.cells ++ cells_in_lines ls
 
 unfoldable pub conds_in_lines : List Line → List Cell
 conds_in_lines [] = []
-conds_in_lines (l ∷ ls) = cells_of l.if-so ++ conds_in_lines ls
+conds_in_lines (l ∷ ls) = cells_of l.if_so ++ conds_in_lines ls
 
 -- a row is sure, and possible, exactly if so it is by the answer's one condition for it
 abbrev pub ByCondition : Type 0

@@ -27,7 +27,7 @@ module _ (v : Filling) (k n : ℕ) (is : v k ≡ n) where
   filled_write : (ls : List Line) → filled v (write_lines k n ls) ≡ filled v ls
   unfolding filled write_lines
   filled_write [] = refl
-  filled_write (l ∷ ls) = cc (holds_each v (write_cell k n) fill_write l.if-so, fill_writes l.cells, filled_write ls)
+  filled_write (l ∷ ls) = cc (holds_each v (write_cell k n) fill_write l.if_so, fill_writes l.cells, filled_write ls)
 
   all_write : (ts : List (List Line)) → all_filled v (write_lists k n ts) ≡ all_filled v ts
   unfolding all_filled write_lists

@@ -22,7 +22,7 @@ write_cond k n c = each_cell (write_cell k n) c
 
 unfoldable pub write_lines : ℕ → ℕ → List Line → List Line
 write_lines k n [] = []
-write_lines k n (l ∷ ls) = record { cells = write_cells k n l.cells; if_so = write_cond k n l.if-so } ∷ write_lines k n ls
+write_lines k n (l ∷ ls) = record { cells = write_cells k n l.cells; if_so = write_cond k n l.if_so } ∷ write_lines k n ls
 
 unfoldable pub write_lists : ℕ → ℕ → List (List Line) → List (List Line)
 write_lists k n [] = []

@@ -24,7 +24,7 @@ fill_cells v (c ∷ cs) = fill_cell v c ∷ fill_cells v cs
 -- the rows of those lines whose condition holds, their gaps filled
 unfoldable pub filled : Filling → List Line → List Row
 filled v [] = []
-filled v (l ∷ ls) = if (holds v l.if-so) (fill_cells v l.cells ∷ filled v ls) (filled v ls)
+filled v (l ∷ ls) = if (holds v l.if_so) (fill_cells v l.cells ∷ filled v ls) (filled v ls)
 
 unfoldable pub all_filled : Filling → List (List Line) → List (List Row)
 all_filled v [] = []

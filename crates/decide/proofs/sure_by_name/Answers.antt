@@ -2,4 +2,4 @@ use Rattle.decide.proofs.sure_by_name.Goals as goal
 use Rattle.decide.proofs.Named as proved
 
 pub returns : goal.returns
-returns c = proved.sure-by-name
+returns c = proved.sure_by_name

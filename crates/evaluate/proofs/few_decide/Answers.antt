@@ -2,4 +2,4 @@ use Rattle.evaluate.proofs.few_decide.Goals as goal
 use Rattle.evaluate.proofs.Few as proved
 
 pub returns : goal.returns
-returns c = proved.few-decide
+returns c = proved.few_decide

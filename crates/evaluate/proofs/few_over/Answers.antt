@@ -2,4 +2,4 @@ use Rattle.evaluate.proofs.few_over.Goals as goal
 use Rattle.evaluate.proofs.Few as proved
 
 pub returns : goal.returns
-returns c = proved.few-over
+returns c = proved.few_over

@@ -2,4 +2,4 @@ use Rattle.query.proofs.few_lines.Goals as goal
 use Rattle.query.proofs.Bounds as proved
 
 pub returns : goal.returns
-returns c = proved.few-lines
+returns c = proved.few_lines

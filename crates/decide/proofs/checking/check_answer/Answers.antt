@@ -10,7 +10,7 @@ returns-then-whole-n c =
     record {
       refusal = told_short c.args.lists.now c.args.nodes.now c.args.answer.now c.args.n c.args.w
           (sym c.in-Ok.ensures.refusal) (rw i at (sym c.lines-fit.ensures ∙ c.if-not-lines-fit.false)) (sym c.in-Ok-stored.ensures.refusal)
-          (sym (rw k at c.in-Ok-named.ensures.refusal)) (rw (i, k) at (sym c.lines-named.ensures ∙ c.if-not-lines-named.false)) (λ e. c.if-whole-n.true (i ∙ e));
+          (sym (rw k at c.in-Ok-named.ensures.refusal)) (rw (i, k) at (sym c.lines_named.ensures ∙ c.if-not-lines-named.false)) (λ e. c.if-whole-n.true (i ∙ e));
       value = tt;
     }
 
@@ -22,7 +22,7 @@ returns c =
     record {
       refusal = told_whole c.args.lists.now c.args.nodes.now c.args.answer.now c.args.n c.args.w
           (sym c.in-Ok.ensures.refusal) (rw i at (sym c.lines-fit.ensures ∙ c.if-not-lines-fit.false)) (sym c.in-Ok-stored.ensures.refusal)
-          (rw k at n) (rw (i, k) at (sym c.lines-named.ensures ∙ c.if-not-lines-named.false)) (sym i ∙ c.if-whole-n.false);
+          (rw k at n) (rw (i, k) at (sym c.lines_named.ensures ∙ c.if-not-lines-named.false)) (sym i ∙ c.if-whole-n.false);
       value = record {
         all = k;
         store = c.in-Ok-stored.ensures.value.2;
@@ -31,6 +31,6 @@ returns c =
         known = (all_named c.args.lists.now c.in-Ok-stored.count n).1;
         whole = rw c.if-whole-n.false at c.whole-lines-whole.ensures.inside;
         cells = rw c.if-whole-n.false at (sym c.lines-fit.ensures ∙ c.if-not-lines-fit.false);
-        named = rw c.if-whole-n.false at (sym c.lines-named.ensures ∙ c.if-not-lines-named.false);
+        named = rw c.if-whole-n.false at (sym c.lines_named.ensures ∙ c.if-not-lines-named.false);
       };
     }

@@ -3,5 +3,5 @@ use Rattle.decide.proofs.rowwise.sure.Goals as goal
 pub returns : goal.returns
 returns c = record {
   refusal = c.in-ok-standing.ensures.refusal;
-  sure = λ ts q a. rw c.is-sure.ensures (c.in-ok-standing.ensures.decided.sure ts q a);
+  sure = λ ts q a. rw c.is_sure.ensures (c.in-ok-standing.ensures.decided.sure ts q a);
 }

@@ -5,8 +5,8 @@ use Rattle.list.proofs.named.named_size.Goals as goal
 
 pub returns-then-not-lines-named : goal.returns-then-not-lines-named
 unfolding list_named
-returns-then-not-lines-named c = let p = simp take_rest at c.lines-named.ensures in cc
+returns-then-not-lines-named c = let p = simp take_rest at c.lines_named.ensures in cc
 
 pub returns : goal.returns
 unfolding list_named
-returns c = let p = simp take_rest at c.lines-named.ensures in (cc, omega arith)
+returns c = let p = simp take_rest at c.lines_named.ensures in (cc, omega arith)

@@ -9,4 +9,4 @@ pub returns : goal.returns
 returns c =
     let m : c.min.result ≡ min c.args.width (length c.args.columns) = omega arith in
     let e = take_within c.args.columns c.args.width c.min.result m in
-    made_as c.cut-to.result c.cut-to.ensures (ap (λ (ps : List ℕ). cut_to ps (rows_in c.args.rows.now)) e)
+    made_as c.cut_to.result c.cut_to.ensures (ap (λ (ps : List ℕ). cut_to ps (rows_in c.args.rows.now)) e)
