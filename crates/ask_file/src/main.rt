@@ -2,7 +2,7 @@
 #![tactic(auto)]
 
 use answer::{Reply, ask};
-use bytes::{Input, read_lists, read_nodes};
+use file_bytes::{Input, read_lists, read_nodes};
 use condition::{Condition, Refusal, cell_at};
 use list::check;
 use query::Question;

@@ -2,7 +2,7 @@
 #![tactic(auto)]
 
 use answer::{Reply, ask};
-use bytes::{Input, read_lists, read_nodes};
+use file_bytes::{Input, read_lists, read_nodes};
 use condition::{Cell, Condition, Node, Refusal, append, find, read_node, room, store_count};
 use evaluate::{Filling, holds_at};
 use list::{check, check_lists};

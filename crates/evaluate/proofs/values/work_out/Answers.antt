@@ -6,7 +6,7 @@ use Rattle.evaluate.proofs.values.work_out.Goals as goal
 
 pub loop-i-preserved : goal.loop-i-preserved
 loop-i-preserved c =
-    let i = c.loop-i.i in let node = c.node-at-node in
+    let i = c.loop-i.i in let node = c.node_at-node in
     let stands : i < count c.args.nodes.now = omega (arith, c.requires.stands.0) in (
       below_more _ _
           (λ k h. let ne : k ≢ c.loop-i.i = omega arith in rw get_or-set_other (c.loop-i.invariant.0 k h))

@@ -1,5 +1,5 @@
-use Rattle.bytes.proofs.Reading.{some_both}
-use Rattle.bytes.proofs.read_list.Goals as goal
+use Rattle.file_bytes.proofs.Reading.{some_both}
+use Rattle.file_bytes.proofs.read_list.Goals as goal
 
 pub returns : goal.returns
 returns c =

@@ -1,6 +1,6 @@
 use Rattle.std.proofs.Common.{◌≡◌, arith}
-use Rattle.bytes.proofs.Reading.{read_none, read_both}
-use Rattle.bytes.proofs.Input.numbers.Goals as goal
+use Rattle.file_bytes.proofs.Reading.{read_none, read_both}
+use Rattle.file_bytes.proofs.Input.numbers.Goals as goal
 
 pub loop-init : goal.loop-init
 loop-init c = read_none _ _

@@ -1,5 +1,5 @@
-use Rattle.bytes.proofs.Reading.{read_none, some_both}
-use Rattle.bytes.proofs.read_each.Goals as goal
+use Rattle.file_bytes.proofs.Reading.{read_none, some_both}
+use Rattle.file_bytes.proofs.read_each.Goals as goal
 
 pub loop-i-init : goal.loop-i-init
 loop-i-init c = (0, read_none _ _)

@@ -1,7 +1,7 @@
 use Rattle.std.proofs.Common.{◌≡◌, ℕ, List, [], vec_items}
-use Rattle.bytes.specs.Numbers.{ReadSome}
-use Rattle.bytes.proofs.Reading.{some_both}
-use Rattle.bytes.proofs.read_lists.Goals as goal
+use Rattle.file_bytes.specs.Numbers.{ReadSome}
+use Rattle.file_bytes.proofs.Reading.{some_both}
+use Rattle.file_bytes.proofs.read_lists.Goals as goal
 
 -- from an empty vector on
 started : (bs xs cs ys : List ℕ) → xs ≡ [] → ReadSome bs xs cs ys → ReadSome bs [] cs ys

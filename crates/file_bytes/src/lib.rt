@@ -2,7 +2,7 @@
 #![tactic(auto)]
 
 ghost use Rattle.std.specs.Prelude.{◌≡◌, ◌*◌, ◌≤◌, [], ◌∷◌, length, IfOk, OnOk, slice_index};
-ghost use Rattle.bytes.specs.Numbers.{number_at, Taken, ReadOn, ReadSome};
+ghost use Rattle.file_bytes.specs.Numbers.{number_at, Taken, ReadOn, ReadSome};
 
 use condition::{MOST_NODES, Refusal};
 use std::alloc::Global;

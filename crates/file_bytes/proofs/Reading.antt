@@ -1,7 +1,7 @@
 -- Numbers read one after the other from the bytes that are left.
 use Rattle.std.proofs.Common.{◌≡◌, ℕ, zero, suc, ◌+◌, ◌*◌, ◌≤◌, List, [], ◌∷◌, ◌++◌, length, drop, sym, refl, ap, ◌∙◌, append_assoc, arith, length-drop}
 use Rattle.std.proofs.lemmas.List.{drop-drop, append-nil}
-use Rattle.bytes.specs.Numbers.{number_at, numbers_in, ReadOn, ReadSome}
+use Rattle.file_bytes.specs.Numbers.{number_at, numbers_in, ReadOn, ReadSome}
 
 numbers_add : (n m : ℕ) (bs : List ℕ) → numbers_in (n + m) bs ≡ numbers_in n bs ++ numbers_in m (drop (4 * n) bs)
 unfolding numbers_in

@@ -1,6 +1,6 @@
 use Rattle.std.proofs.Common.{vec_items}
-use Rattle.bytes.specs.Numbers.{ReadSome}
-use Rattle.bytes.proofs.read_each.Given as goal
+use Rattle.file_bytes.specs.Numbers.{ReadSome}
+use Rattle.file_bytes.proofs.read_each.Given as goal
 
 abbrev pub invariant-loop-i : goal.invariant-loop-i
 invariant-loop-i l = ReadSome l.initial.input.rest.now (vec_items l.initial.lists) l.input.rest.now (vec_items l.lists)
