@@ -5,4 +5,4 @@ pub loop-i-init : goal.loop-i-init
 loop-i-init c = (0, read_none _ _)
 
 pub loop-i-preserved : goal.loop-i-preserved
-loop-i-preserved c = some_both _ _ _ _ _ _ c.loop-i.invariant c.in-ok-read-list.ensures
+loop-i-preserved c = some_both _ _ _ _ _ _ c.loop-i.invariant c.in_ok-read_list.ensures

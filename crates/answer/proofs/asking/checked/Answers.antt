@@ -6,42 +6,42 @@ use Rattle.answer.specs.Entry.{question, answer_size}
 use Rattle.answer.proofs.Checking.{stands_front, told_asking, told_room, told_out, told_none, narrow}
 use Rattle.answer.proofs.asking.checked.Goals as goal
 
-pub returns-in-err-question : goal.returns-in-err-question
-returns-in-err-question c =
+pub returns-in_err-question : goal.returns-in_err-question
+returns-in_err-question c =
     let e = pairs_all c.args.lists.now c.of.result c.of.ensures in
-    let h = told_asking c.args.lists.now c.args.signs.now c.args.nodes.now c.args.out.now c.in-ok-check.ensures.refusal _ (rw e at c.in-err-question.ensures.refusal) in search rules
+    let h = told_asking c.args.lists.now c.args.signs.now c.args.nodes.now c.args.out.now c.in_ok-check.ensures.refusal _ (rw e at c.in_err-question.ensures.refusal) in search rules
 
-pub overflow-add-cost : goal.overflow-add-cost
-overflow-add-cost c =
+pub overflow_add-cost : goal.overflow_add-cost
+overflow_add-cost c =
     let e = pairs_all c.args.lists.now c.of.result c.of.ensures in
-    let st = rw e at c.in-ok-question.ensures.value in let n = stands_front (shapes c.args.lists.now) (asked c.args.lists.now c.args.signs.now) c.in-ok-question.question.parts c.in-ok-question.question.signs st in
+    let st = rw e at c.in_ok-question.ensures.value in let n = stands_front (shapes c.args.lists.now) (asked c.args.lists.now c.args.signs.now) c.in_ok-question.question.parts c.in_ok-question.question.signs st in
     omega (arith, c.cost.ensures, n.cost, st.cost)
 
 pub returns-then-room-cost : goal.returns-then-room-cost
 returns-then-room-cost c =
     let e = pairs_all c.args.lists.now c.of.result c.of.ensures in
-    let st = rw e at c.in-ok-question.ensures.value in let n = stands_front (shapes c.args.lists.now) (asked c.args.lists.now c.args.signs.now) c.in-ok-question.question.parts c.in-ok-question.question.signs st in
-    record { refusal = told_room c.args.lists.now c.args.signs.now c.args.nodes.now c.args.out.now c.in-ok-check.ensures.refusal (rw e at c.in-ok-question.ensures.refusal) c.in-ok-room.room c.cost.result c.in-ok-room.ensures.value (c.cost.ensures ∙ n.cost) c.if-room-cost.true; value = tt }
+    let st = rw e at c.in_ok-question.ensures.value in let n = stands_front (shapes c.args.lists.now) (asked c.args.lists.now c.args.signs.now) c.in_ok-question.question.parts c.in_ok-question.question.signs st in
+    record { refusal = told_room c.args.lists.now c.args.signs.now c.args.nodes.now c.args.out.now c.in_ok-check.ensures.refusal (rw e at c.in_ok-question.ensures.refusal) c.in_ok-room.room c.cost.result c.in_ok-room.ensures.value (c.cost.ensures ∙ n.cost) c.if-room-cost.true; value = tt }
 
-pub overflow-mul-size : goal.overflow-mul-size
-overflow-mul-size c =
+pub overflow_mul-size : goal.overflow_mul-size
+overflow_mul-size c =
     let e = pairs_all c.args.lists.now c.of.result c.of.ensures in
-    let st = rw e at c.in-ok-question.ensures.value in let n = stands_front (shapes c.args.lists.now) (asked c.args.lists.now c.args.signs.now) c.in-ok-question.question.parts c.in-ok-question.question.signs st in
-    let w = narrow c.args.lists.now c.args.signs.now c.args.nodes.now c.of.result c.of.ensures c.in-ok-check.ensures.refusal c.in-ok-question.question.parts c.in-ok-question.question.signs st in
+    let st = rw e at c.in_ok-question.ensures.value in let n = stands_front (shapes c.args.lists.now) (asked c.args.lists.now c.args.signs.now) c.in_ok-question.question.parts c.in_ok-question.question.signs st in
+    let w = narrow c.args.lists.now c.args.signs.now c.args.nodes.now c.of.result c.of.ensures c.in_ok-check.ensures.refusal c.in_ok-question.question.parts c.in_ok-question.question.signs st in
     omega (arith, c.width.ensures)
 
-pub overflow-add-size : goal.overflow-add-size
-overflow-add-size c =
+pub overflow_add-size : goal.overflow_add-size
+overflow_add-size c =
     let e = pairs_all c.args.lists.now c.of.result c.of.ensures in
-    let st = rw e at c.in-ok-question.ensures.value in let n = stands_front (shapes c.args.lists.now) (asked c.args.lists.now c.args.signs.now) c.in-ok-question.question.parts c.in-ok-question.question.signs st in
-    let w = narrow c.args.lists.now c.args.signs.now c.args.nodes.now c.of.result c.of.ensures c.in-ok-check.ensures.refusal c.in-ok-question.question.parts c.in-ok-question.question.signs st in
+    let st = rw e at c.in_ok-question.ensures.value in let n = stands_front (shapes c.args.lists.now) (asked c.args.lists.now c.args.signs.now) c.in_ok-question.question.parts c.in_ok-question.question.signs st in
+    let w = narrow c.args.lists.now c.args.signs.now c.args.nodes.now c.of.result c.of.ensures c.in_ok-check.ensures.refusal c.in_ok-question.question.parts c.in_ok-question.question.signs st in
     omega (arith, c.width.ensures)
 
-pub overflow-mul-size-2 : goal.overflow-mul-size-2
-overflow-mul-size-2 c =
+pub overflow_mul-size-2 : goal.overflow_mul-size-2
+overflow_mul-size-2 c =
     let e = pairs_all c.args.lists.now c.of.result c.of.ensures in
-    let st = rw e at c.in-ok-question.ensures.value in let n = stands_front (shapes c.args.lists.now) (asked c.args.lists.now c.args.signs.now) c.in-ok-question.question.parts c.in-ok-question.question.signs st in
-    let w = narrow c.args.lists.now c.args.signs.now c.args.nodes.now c.of.result c.of.ensures c.in-ok-check.ensures.refusal c.in-ok-question.question.parts c.in-ok-question.question.signs st in
+    let st = rw e at c.in_ok-question.ensures.value in let n = stands_front (shapes c.args.lists.now) (asked c.args.lists.now c.args.signs.now) c.in_ok-question.question.parts c.in_ok-question.question.signs st in
+    let w = narrow c.args.lists.now c.args.signs.now c.args.nodes.now c.of.result c.of.ensures c.in_ok-check.ensures.refusal c.in_ok-question.question.parts c.in_ok-question.question.signs st in
     let l : c.lines.result ≤ 4096 = omega (arith, c.lines.ensures, n.lines, st.lines) in
     let m : 1 + 2 * c.width.result ≤ 17 = omega (arith, c.width.ensures) in
     let k : c.lines.result * (1 + 2 * c.width.result) ≤ 4096 * 17 = mul-le-mul l m in omega arith
@@ -49,13 +49,13 @@ overflow-mul-size-2 c =
 pub returns-then-out-size : goal.returns-then-out-size
 returns-then-out-size c =
     let e = pairs_all c.args.lists.now c.of.result c.of.ensures in
-    let st = rw e at c.in-ok-question.ensures.value in let n = stands_front (shapes c.args.lists.now) (asked c.args.lists.now c.args.signs.now) c.in-ok-question.question.parts c.in-ok-question.question.signs st in
+    let st = rw e at c.in_ok-question.ensures.value in let n = stands_front (shapes c.args.lists.now) (asked c.args.lists.now c.args.signs.now) c.in_ok-question.question.parts c.in_ok-question.question.signs st in
     let z : c.lines.result * (1 + 2 * c.width.result) ≡ answer_size (question c.args.lists.now c.args.signs.now) = rw (c.lines.ensures, c.width.ensures, n.lines, n.width) refl in
-    record { refusal = told_out c.args.lists.now c.args.signs.now c.args.nodes.now c.args.out.now c.in-ok-check.ensures.refusal (rw e at c.in-ok-question.ensures.refusal) c.in-ok-room.room c.cost.result (c.lines.result * (1 + 2 * c.width.result)) c.in-ok-room.ensures.value (c.cost.ensures ∙ n.cost) c.if-room-cost.false z c.if-out-size.true; value = tt }
+    record { refusal = told_out c.args.lists.now c.args.signs.now c.args.nodes.now c.args.out.now c.in_ok-check.ensures.refusal (rw e at c.in_ok-question.ensures.refusal) c.in_ok-room.room c.cost.result (c.lines.result * (1 + 2 * c.width.result)) c.in_ok-room.ensures.value (c.cost.ensures ∙ n.cost) c.if-room-cost.false z c.if-out-size.true; value = tt }
 
 pub returns : goal.returns
 returns c =
     let e = pairs_all c.args.lists.now c.of.result c.of.ensures in
-    let st = rw e at c.in-ok-question.ensures.value in let n = stands_front (shapes c.args.lists.now) (asked c.args.lists.now c.args.signs.now) c.in-ok-question.question.parts c.in-ok-question.question.signs st in
+    let st = rw e at c.in_ok-question.ensures.value in let n = stands_front (shapes c.args.lists.now) (asked c.args.lists.now c.args.signs.now) c.in_ok-question.question.parts c.in_ok-question.question.signs st in
     let z : c.lines.result * (1 + 2 * c.width.result) ≡ answer_size (question c.args.lists.now c.args.signs.now) = rw (c.lines.ensures, c.width.ensures, n.lines, n.width) refl in
-    record { refusal = told_none c.args.lists.now c.args.signs.now c.args.nodes.now c.args.out.now c.in-ok-check.ensures.refusal (rw e at c.in-ok-question.ensures.refusal) c.in-ok-room.room c.cost.result (c.lines.result * (1 + 2 * c.width.result)) c.in-ok-room.ensures.value (c.cost.ensures ∙ n.cost) c.if-room-cost.false z c.if-out-size.false; value = st }
+    record { refusal = told_none c.args.lists.now c.args.signs.now c.args.nodes.now c.args.out.now c.in_ok-check.ensures.refusal (rw e at c.in_ok-question.ensures.refusal) c.in_ok-room.room c.cost.result (c.lines.result * (1 + 2 * c.width.result)) c.in_ok-room.ensures.value (c.cost.ensures ∙ n.cost) c.if-room-cost.false z c.if-out-size.false; value = st }

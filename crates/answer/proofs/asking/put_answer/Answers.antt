@@ -21,8 +21,8 @@ lay-requires c =
       low = omega (arith, p.cost, a.count, a.place, c.requires.store.1, c.requires.cost);
     }
 
-pub put-lines-requires : goal.put-lines-requires
-put-lines-requires c =
+pub put_lines-requires : goal.put_lines-requires
+put_lines-requires c =
     let p = planned_at c.args.lists.now c.of-shapes.result c.of-shapes.ensures (count c.args.nodes.now) c.add-first.result c.add-first.ensures.place c.requires.named 16 c.args.question.now.signs c.args.question.now.parts c.parts.result.now c.parts.ensures c.requires.parts c.requires.cost in
     let a = c.add-first.ensures in
     record { sound = p.sound; low = omega (arith, p.cost, a.place, c.requires.store.1, c.requires.cost); room = rw (p.lines, p.width) at c.requires.room }
@@ -33,10 +33,10 @@ returns c =
     let a = c.add-first.ensures in
     record {
       grown = grown_trans c.args.nodes.now c.add-first.new.nodes c.lay.new.nodes a.grown c.lay.ensures.grown;
-      long = c.put-lines.ensures.long;
+      long = c.put_lines.ensures.long;
       few = omega (arith, c.lay.ensures.more, a.count, a.place, p.cost);
       lines = rw (p.lines, p.width)
-          (written_says c.args.lists.now c.add-first.result (plan_of 16 c.of-shapes.result c.parts.result.now) (c.add-first.result + 1) c.args.nodes.now c.add-first.new.nodes c.lay.new.nodes c.args.out.now c.put-lines.new.out p.sound.fits (omega (arith, a.place)) a.grown (sym a.count) c.lay.ensures c.put-lines.ensures ∙ sym (p.answers c.args.nodes.now));
+          (written_says c.args.lists.now c.add-first.result (plan_of 16 c.of-shapes.result c.parts.result.now) (c.add-first.result + 1) c.args.nodes.now c.add-first.new.nodes c.lay.new.nodes c.args.out.now c.put_lines.new.out p.sound.fits (omega (arith, a.place)) a.grown (sym a.count) c.lay.ensures c.put_lines.ensures ∙ sym (p.answers c.args.nodes.now));
       stays = stays c.args.lists.now c.of-shapes.result c.args.nodes.now c.lay.new.nodes c.of-shapes.ensures c.requires.named (grown_trans c.args.nodes.now c.add-first.new.nodes c.lay.new.nodes a.grown c.lay.ensures.grown);
-      past = rw (p.lines, p.width) (drop_past (many (plan_of 16 c.of-shapes.result c.parts.result.now) * line_size (wide (plan_of 16 c.of-shapes.result c.parts.result.now))) c.args.out.now c.put-lines.new.out c.put-lines.ensures.long c.put-lines.ensures.past);
+      past = rw (p.lines, p.width) (drop_past (many (plan_of 16 c.of-shapes.result c.parts.result.now) * line_size (wide (plan_of 16 c.of-shapes.result c.parts.result.now))) c.args.out.now c.put_lines.new.out c.put_lines.ensures.long c.put_lines.ensures.past);
     }

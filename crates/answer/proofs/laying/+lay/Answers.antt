@@ -29,8 +29,8 @@ lay-requires t c =
     let v = u.0 in
     (omega (arith, c.below-p.ensures.left), (v.sound, (c.requires.based, (c.below-p.ensures.base ∙ c.requires.base, (omega (arith, v.cost), omega (arith, v.cost))))))
 
-pub keep-lines-requires : goal.keep-lines-requires
-keep-lines-requires t c =
+pub keep_lines-requires : goal.keep_lines-requires
+keep_lines-requires t c =
     let u = keep_view c.requires.sound c.if-side-eq0.false c.part-here.ensures c.below-p.ensures.left c.below-p.ensures.parts c.in-Keep.is in
     let v = u.0 in
     let k = c.lay.ensures.more in
@@ -41,7 +41,7 @@ pub returns-in-Keep : goal.returns-in-Keep
 returns-in-Keep t c =
     let u = keep_view c.requires.sound c.if-side-eq0.false c.part-here.ensures c.below-p.ensures.left c.below-p.ensures.parts c.in-Keep.is in
     let v = u.0 in
-    subst (λ p. Laid c.args.asked.lists.now p c.args.nodes.now c.keep-lines.new.nodes) (sym v.is) (laid_keep c.args.asked.lists.now c.args.asked.first c.args.nodes.now (test_of c.in-Keep.test) (plan_of c.below-p.result.left c.args.asked.shapes.now c.below-p.result.parts.now) c.below-p.result.base c.lay.new.nodes c.keep-lines.new.nodes (c.below-p.ensures.base ∙ c.requires.base) c.lay.ensures c.keep-lines.ensures)
+    subst (λ p. Laid c.args.asked.lists.now p c.args.nodes.now c.keep_lines.new.nodes) (sym v.is) (laid_keep c.args.asked.lists.now c.args.asked.first c.args.nodes.now (test_of c.in-Keep.test) (plan_of c.below-p.result.left c.args.asked.shapes.now c.below-p.result.parts.now) c.below-p.result.base c.lay.new.nodes c.keep_lines.new.nodes (c.below-p.ensures.base ∙ c.requires.base) c.lay.ensures c.keep_lines.ensures)
 
 pub lay-requires-in-Columns : goal.lay-requires-in-Columns
 lay-requires-in-Columns t c =
@@ -65,8 +65,8 @@ lay-requires-in-Join-2 t c =
     let g = c.lay-in-Join.ensures.grown in
     (omega (arith, c.below-q.ensures.left), (v.second, (based_grown c.args.asked.first c.args.nodes.now c.lay-in-Join.new.nodes g c.requires.based, (c.below-q.ensures.base, (omega (arith, v.cost, g.long, c.requires.room), omega (arith, v.cost, c.requires.low))))))
 
-pub join-lines-requires : goal.join-lines-requires
-join-lines-requires t c =
+pub join_lines-requires : goal.join_lines-requires
+join_lines-requires t c =
     let v = join_view c.requires.sound c.if-side-eq0.false c.part-here.ensures c.below-p-in-Join.ensures.left c.below-p-in-Join.ensures.parts c.below-q.ensures.left c.below-q.ensures.parts c.in-Join.is in
     let k₁ = c.lay-in-Join.ensures.more in
     let k₂ = c.lay-in-Join-2.ensures.more in
@@ -77,7 +77,7 @@ join-lines-requires t c =
 pub returns-in-Join : goal.returns-in-Join
 returns-in-Join t c =
     let v = join_view c.requires.sound c.if-side-eq0.false c.part-here.ensures c.below-p-in-Join.ensures.left c.below-p-in-Join.ensures.parts c.below-q.ensures.left c.below-q.ensures.parts c.in-Join.is in
-    subst (λ p. Laid c.args.asked.lists.now p c.args.nodes.now c.join-lines.new.nodes) (sym v.is) (laid_join c.args.asked.lists.now c.args.asked.first c.args.nodes.now (plan_of c.below-p-in-Join.result.left c.args.asked.shapes.now c.below-p-in-Join.result.parts.now) (plan_of c.below-q.result.left c.args.asked.shapes.now c.below-q.result.parts.now) c.lay-in-Join.new.nodes c.lay-in-Join-2.new.nodes (omega (arith, c.requires.based.low)) v.second.fits c.lay-in-Join.ensures c.lay-in-Join-2.ensures c.below-p-in-Join.result.base c.below-q.result.base c.join-lines.new.nodes (c.below-p-in-Join.ensures.base ∙ c.requires.base) c.below-q.ensures.base c.join-lines.ensures)
+    subst (λ p. Laid c.args.asked.lists.now p c.args.nodes.now c.join_lines.new.nodes) (sym v.is) (laid_join c.args.asked.lists.now c.args.asked.first c.args.nodes.now (plan_of c.below-p-in-Join.result.left c.args.asked.shapes.now c.below-p-in-Join.result.parts.now) (plan_of c.below-q.result.left c.args.asked.shapes.now c.below-q.result.parts.now) c.lay-in-Join.new.nodes c.lay-in-Join-2.new.nodes (omega (arith, c.requires.based.low)) v.second.fits c.lay-in-Join.ensures c.lay-in-Join-2.ensures c.below-p-in-Join.result.base c.below-q.result.base c.join_lines.new.nodes (c.below-p-in-Join.ensures.base ∙ c.requires.base) c.below-q.ensures.base c.join_lines.ensures)
 
 pub lay-requires-in-Union : goal.lay-requires-in-Union
 lay-requires-in-Union t c =
@@ -112,8 +112,8 @@ pub part-requires : goal.part-requires
 part-requires t c =
     let v = (without_view c.requires.sound c.if-side-eq0.false c.part-here.ensures c.below-p-in-Without.ensures.left c.below-p-in-Without.ensures.parts c.below-q-in-Without.ensures.left c.below-q-in-Without.ensures.parts c.in-Without.is).0 in some_parts v.second
 
-pub less-lines-requires : goal.less-lines-requires
-less-lines-requires t c =
+pub less_lines-requires : goal.less_lines-requires
+less_lines-requires t c =
     let u = without_view c.requires.sound c.if-side-eq0.false c.part-here.ensures c.below-p-in-Without.ensures.left c.below-p-in-Without.ensures.parts c.below-q-in-Without.ensures.left c.below-q-in-Without.ensures.parts c.in-Without.is in
     let v = u.0 in
     let m = numbers v.second c.part.ensures in
@@ -127,7 +127,7 @@ pub returns-then-part-gt0 : goal.returns-then-part-gt0
 returns-then-part-gt0 t c =
     let v = (without_view c.requires.sound c.if-side-eq0.false c.part-here.ensures c.below-p-in-Without.ensures.left c.below-p-in-Without.ensures.parts c.below-q-in-Without.ensures.left c.below-q-in-Without.ensures.parts c.in-Without.is).0 in
     let m = numbers v.second c.part.ensures in
-    subst (λ p. Laid c.args.asked.lists.now p c.args.nodes.now c.less-lines.new.nodes) (sym v.is) (laid_less c.args.asked.lists.now c.args.asked.first c.args.nodes.now (plan_of c.below-p-in-Without.result.left c.args.asked.shapes.now c.below-p-in-Without.result.parts.now) (plan_of c.below-q-in-Without.result.left c.args.asked.shapes.now c.below-q-in-Without.result.parts.now) c.lay-in-Without.new.nodes c.lay-in-Without-2.new.nodes (omega (arith, c.requires.based.low)) v.second.fits c.lay-in-Without.ensures c.lay-in-Without-2.ensures c.below-p-in-Without.result.base c.below-q-in-Without.result.base c.less-lines.new.nodes (c.below-p-in-Without.ensures.base ∙ c.requires.base) c.below-q-in-Without.ensures.base (omega (arith, m.lines)) c.less-lines.ensures)
+    subst (λ p. Laid c.args.asked.lists.now p c.args.nodes.now c.less_lines.new.nodes) (sym v.is) (laid_less c.args.asked.lists.now c.args.asked.first c.args.nodes.now (plan_of c.below-p-in-Without.result.left c.args.asked.shapes.now c.below-p-in-Without.result.parts.now) (plan_of c.below-q-in-Without.result.left c.args.asked.shapes.now c.below-q-in-Without.result.parts.now) c.lay-in-Without.new.nodes c.lay-in-Without-2.new.nodes (omega (arith, c.requires.based.low)) v.second.fits c.lay-in-Without.ensures c.lay-in-Without-2.ensures c.below-p-in-Without.result.base c.below-q-in-Without.result.base c.less_lines.new.nodes (c.below-p-in-Without.ensures.base ∙ c.requires.base) c.below-q-in-Without.ensures.base (omega (arith, m.lines)) c.less_lines.ensures)
 
 pub returns-else-part-gt0 : goal.returns-else-part-gt0
 returns-else-part-gt0 t c =

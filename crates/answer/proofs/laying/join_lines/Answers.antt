@@ -14,8 +14,8 @@ part-n-requires c = some_parts c.requires.first.0
 pub part-m-requires : goal.part-m-requires
 part-m-requires c = some_parts c.requires.second.0
 
-pub overflow-mul-pairs : goal.overflow-mul-pairs
-overflow-mul-pairs c =
+pub overflow_mul-pairs : goal.overflow_mul-pairs
+overflow_mul-pairs c =
     let n = numbers c.requires.first.0 c.part-n.ensures in let m = numbers c.requires.second.0 c.part-m.ensures in
     rw (n.lines, m.lines) (omega arith)
 

@@ -10,8 +10,8 @@ use Rattle.answer.proofs.laying.less_lines.Goals as goal
 pub part-n-requires : goal.part-n-requires
 part-n-requires c = some_parts c.requires.first.0
 
-pub less-line-requires : goal.less-line-requires
-less-line-requires c =
+pub less_line-requires : goal.less_line-requires
+less_line-requires c =
     let n = numbers c.requires.first.0 c.part-n.ensures in
     let l : c.loop-i.i < many (plan_of c.args.p.left c.args.asked.shapes.now c.args.p.parts.now) = omega (arith, n.lines) in
     let g = c.loop-i.invariant.grown in
@@ -29,7 +29,7 @@ pub loop-i-preserved : goal.loop-i-preserved
 loop-i-preserved c =
     let n = numbers c.requires.first.0 c.part-n.ensures in
     let l : c.loop-i.i < many (plan_of c.args.p.left c.args.asked.shapes.now c.args.p.parts.now) = omega (arith, n.lines) in
-    lines_more c.args.asked.lists.now (plan_of c.args.p.left c.args.asked.shapes.now c.args.p.parts.now) c.args.p.base (plan_of c.args.q.left c.args.asked.shapes.now c.args.q.parts.now) c.args.q.base c.loop-i.i c.args.nodes.now c.loop-i.nodes c.less-line.new.nodes c.loop-i.invariant (c.requires.first.1.stand c.loop-i.i l) c.requires.second.1.stand c.less-line.ensures
+    lines_more c.args.asked.lists.now (plan_of c.args.p.left c.args.asked.shapes.now c.args.p.parts.now) c.args.p.base (plan_of c.args.q.left c.args.asked.shapes.now c.args.q.parts.now) c.args.q.base c.loop-i.i c.args.nodes.now c.loop-i.nodes c.less_line.new.nodes c.loop-i.invariant (c.requires.first.1.stand c.loop-i.i l) c.requires.second.1.stand c.less_line.ensures
 
 pub returns : goal.returns
 returns c =

@@ -15,8 +15,8 @@ returns-then-side-eq0 t c = absurd (no_left c.requires.sound c.if-side-eq0.true)
 pub part-here-requires : goal.part-here-requires
 part-here-requires t c = some_parts c.requires.sound
 
-pub overflow-add-end : goal.overflow-add-end
-overflow-add-end t c = let n = numbers c.requires.sound c.part-here.ensures in omega (arith, n.cost, n.cheap)
+pub overflow_add-end : goal.overflow_add-end
+overflow_add-end t c = let n = numbers c.requires.sound c.part-here.ensures in omega (arith, n.cost, n.cheap)
 
 pub line-requires : goal.line-requires
 unfolding many
@@ -41,8 +41,8 @@ pub returns-then-i-first : goal.returns-then-i-first
 unfolding place
 returns-then-i-first t c = let v = (union_view c.requires.sound c.if-side-eq0.false c.part-here.ensures c.below-p.ensures.left c.below-p.ensures.parts refl refl c.in-Union.is).0 in let k = numbers v.first c.part-first.ensures in let l : c.args.i < many (plan_of c.below-p.result.left c.args.asked.shapes.now c.below-p.result.parts.now) = omega (arith, k.lines) in rw (v.is, lt-ltb _ _ l) (c.place-then-i-first.ensures ∙ rw c.below-p.ensures.base refl)
 
-pub overflow-add-side : goal.overflow-add-side
-overflow-add-side t c = let v = (union_view c.requires.sound c.if-side-eq0.false c.part-here.ensures c.below-p.ensures.left c.below-p.ensures.parts refl refl c.in-Union.is).0 in let k = numbers v.first c.part-first.ensures in omega (arith, k.cost, k.cheap)
+pub overflow_add-side : goal.overflow_add-side
+overflow_add-side t c = let v = (union_view c.requires.sound c.if-side-eq0.false c.part-here.ensures c.below-p.ensures.left c.below-p.ensures.parts refl refl c.in-Union.is).0 in let k = numbers v.first c.part-first.ensures in omega (arith, k.cost, k.cheap)
 
 pub place-requires-in-Union : goal.place-requires-in-Union
 place-requires-in-Union t c = let v = (union_view c.requires.sound c.if-side-eq0.false c.part-here.ensures c.below-p.ensures.left c.below-p.ensures.parts c.below-in-Union.ensures.left c.below-in-Union.ensures.parts c.in-Union.is).0 in let k = numbers v.first c.part-first.ensures in (omega (arith, c.below-in-Union.ensures.left), (v.second, (omega (arith, k.lines, v.lines), omega (arith, v.cost, k.cost, c.below-in-Union.ensures.base))))
@@ -57,21 +57,21 @@ pub returns-then-others-eq0 : goal.returns-then-others-eq0
 unfolding place
 returns-then-others-eq0 t c = let v = (without_view c.requires.sound c.if-side-eq0.false c.part-here.ensures c.below-then-others-eq0.ensures.left c.below-then-others-eq0.ensures.parts c.below-in-Without.ensures.left c.below-in-Without.ensures.parts c.in-Without.is).0 in let k = numbers v.second c.part-others.ensures in let z : many (plan_of c.below-in-Without.result.left c.args.asked.shapes.now c.below-in-Without.result.parts.now) ≡ 0 = omega (arith, k.lines) in rw (v.is, z) (c.place-then-others-eq0.ensures ∙ rw c.below-then-others-eq0.ensures.base refl)
 
-pub overflow-mul-here : goal.overflow-mul-here
-overflow-mul-here t c = let n = numbers c.requires.sound c.part-here.ensures in omega (arith, n.width, n.narrow)
+pub overflow_mul-here : goal.overflow_mul-here
+overflow_mul-here t c = let n = numbers c.requires.sound c.part-here.ensures in omega (arith, n.width, n.narrow)
 
-pub overflow-add-here : goal.overflow-add-here
-overflow-add-here t c = let n = numbers c.requires.sound c.part-here.ensures in omega (arith, n.width, n.narrow)
+pub overflow_add-here : goal.overflow_add-here
+overflow_add-here t c = let n = numbers c.requires.sound c.part-here.ensures in omega (arith, n.width, n.narrow)
 
-pub overflow-mul-others : goal.overflow-mul-others
-overflow-mul-others t c = let n = numbers c.requires.sound c.part-here.ensures in let v = (without_view c.requires.sound c.if-side-eq0.false c.part-here.ensures refl refl c.below-in-Without.ensures.left c.below-in-Without.ensures.parts c.in-Without.is).0 in let k = numbers v.second c.part-others.ensures in let r = less_room n k v c.args.i c.requires.within in omega arith
+pub overflow_mul-others : goal.overflow_mul-others
+overflow_mul-others t c = let n = numbers c.requires.sound c.part-here.ensures in let v = (without_view c.requires.sound c.if-side-eq0.false c.part-here.ensures refl refl c.below-in-Without.ensures.left c.below-in-Without.ensures.parts c.in-Without.is).0 in let k = numbers v.second c.part-others.ensures in let r = less_room n k v c.args.i c.requires.within in omega arith
 
 pub last-requires-in-Without : goal.last-requires-in-Without
 last-requires-in-Without t c = let n = numbers c.requires.sound c.part-here.ensures in let v = (without_view c.requires.sound c.if-side-eq0.false c.part-here.ensures refl refl c.below-in-Without.ensures.left c.below-in-Without.ensures.parts c.in-Without.is).0 in let k = numbers v.second c.part-others.ensures in let r = less_room n k v c.args.i c.requires.within in record { line = (omega (arith, n.lines), some_less c.part-here.result.width c.part-others.result.lines c.if-others-eq0.false); low = (omega arith, omega (arith, n.cost)) }
 
 pub returns-in-Rows : goal.returns-in-Rows
 unfolding place
-returns-in-Rows t c = let v = rows_view c.requires.sound c.if-side-eq0.false c.part-here.ensures c.in-Rows.is in rw v.0 (c.line-node.ensures ∙ node_at c.line.result.now c.args.asked.lists.now ((shape_of c.args.asked.shapes.now c.in-Rows.t).at + c.args.i * line_size (shape_of c.args.asked.shapes.now c.in-Rows.t).width) c.line.ensures.is)
+returns-in-Rows t c = let v = rows_view c.requires.sound c.if-side-eq0.false c.part-here.ensures c.in-Rows.is in rw v.0 (c.line_node.ensures ∙ node_at c.line.result.now c.args.asked.lists.now ((shape_of c.args.asked.shapes.now c.in-Rows.t).at + c.args.i * line_size (shape_of c.args.asked.shapes.now c.in-Rows.t).width) c.line.ensures.is)
 
 pub returns-in-Keep : goal.returns-in-Keep
 unfolding place

@@ -10,17 +10,17 @@ use Rattle.answer.proofs.writing.put_line.Goals as goal
 pub part-width-requires : goal.part-width-requires
 part-width-requires c = some_parts c.requires.sound
 
-pub overflow-mul-a : goal.overflow-mul-a
-overflow-mul-a c = let n = numbers c.requires.sound c.part-width.ensures in omega (arith, n.width, n.narrow)
+pub overflow_mul-a : goal.overflow_mul-a
+overflow_mul-a c = let n = numbers c.requires.sound c.part-width.ensures in omega (arith, n.width, n.narrow)
 
-pub overflow-add-at-in-loop-a : goal.overflow-add-at-in-loop-a
-overflow-add-at-in-loop-a c = let n = numbers c.requires.sound c.part-width.ensures in omega (arith, n.width, n.narrow, c.requires.room)
+pub overflow_add-at-in-loop-a : goal.overflow_add-at-in-loop-a
+overflow_add-at-in-loop-a c = let n = numbers c.requires.sound c.part-width.ensures in omega (arith, n.width, n.narrow, c.requires.room)
 
 pub cell-requires : goal.cell-requires
 cell-requires c = let n = numbers c.requires.sound c.part-width.ensures in record { sound = c.requires.sound; line = c.requires.line; column = omega (arith, n.width) }
 
-pub put-cell-requires : goal.put-cell-requires
-put-cell-requires c = let n = numbers c.requires.sound c.part-width.ensures in let z = length-set c.args.out.now c.args.at c.place.result in omega (arith, n.width, c.requires.room, c.loop-a.invariant.long)
+pub put_cell-requires : goal.put_cell-requires
+put_cell-requires c = let n = numbers c.requires.sound c.part-width.ensures in let z = length-set c.args.out.now c.args.at c.place.result in omega (arith, n.width, c.requires.room, c.loop-a.invariant.long)
 
 pub returns : goal.returns
 returns c =

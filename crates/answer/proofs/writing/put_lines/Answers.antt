@@ -11,20 +11,20 @@ use Rattle.answer.proofs.writing.put_lines.Goals as goal
 pub part-here-requires : goal.part-here-requires
 part-here-requires c = some_parts c.requires.sound
 
-pub overflow-mul-here : goal.overflow-mul-here
-overflow-mul-here c = let n = numbers c.requires.sound c.part-here.ensures in omega (arith, n.width, n.narrow)
+pub overflow_mul-here : goal.overflow_mul-here
+overflow_mul-here c = let n = numbers c.requires.sound c.part-here.ensures in omega (arith, n.width, n.narrow)
 
-pub overflow-add-here : goal.overflow-add-here
-overflow-add-here c = let n = numbers c.requires.sound c.part-here.ensures in omega (arith, n.width, n.narrow)
+pub overflow_add-here : goal.overflow_add-here
+overflow_add-here c = let n = numbers c.requires.sound c.part-here.ensures in omega (arith, n.width, n.narrow)
 
-pub overflow-mul-i : goal.overflow-mul-i
-overflow-mul-i c =
+pub overflow_mul-i : goal.overflow_mul-i
+overflow_mul-i c =
     let n = numbers c.requires.sound c.part-here.ensures in
     let r = row c.loop-i.i (many (plan_of c.args.side.left c.args.asked.shapes.now c.args.side.parts.now)) (line_size (wide (plan_of c.args.side.left c.args.asked.shapes.now c.args.side.parts.now))) (omega (arith, n.lines)) in
     rw n.width (omega (arith, c.requires.room))
 
-pub put-line-requires : goal.put-line-requires
-put-line-requires c =
+pub put_line-requires : goal.put_line-requires
+put_line-requires c =
     let n = numbers c.requires.sound c.part-here.ensures in
     let l : c.loop-i.i < many (plan_of c.args.side.left c.args.asked.shapes.now c.args.side.parts.now) = omega (arith, n.lines) in
     record {
@@ -37,8 +37,8 @@ put-line-requires c =
 pub loop-i-preserved : goal.loop-i-preserved
 loop-i-preserved c =
     let n = numbers c.requires.sound c.part-here.ensures in
-    written_more (place c.args.asked.lists.now (plan_of c.args.side.left c.args.asked.shapes.now c.args.side.parts.now) c.args.side.base) (cell c.args.asked.lists.now (plan_of c.args.side.left c.args.asked.shapes.now c.args.side.parts.now)) (wide (plan_of c.args.side.left c.args.asked.shapes.now c.args.side.parts.now)) c.loop-i.i c.args.out.now c.loop-i.out c.put-line.new.out c.loop-i.invariant
-    (subst (λ v. Put (place c.args.asked.lists.now (plan_of c.args.side.left c.args.asked.shapes.now c.args.side.parts.now) c.args.side.base c.loop-i.i) (cell c.args.asked.lists.now (plan_of c.args.side.left c.args.asked.shapes.now c.args.side.parts.now) c.loop-i.i) (wide (plan_of c.args.side.left c.args.asked.shapes.now c.args.side.parts.now)) (c.loop-i.i * (1 + 2 * v)) c.loop-i.out c.put-line.new.out) n.width c.put-line.ensures)
+    written_more (place c.args.asked.lists.now (plan_of c.args.side.left c.args.asked.shapes.now c.args.side.parts.now) c.args.side.base) (cell c.args.asked.lists.now (plan_of c.args.side.left c.args.asked.shapes.now c.args.side.parts.now)) (wide (plan_of c.args.side.left c.args.asked.shapes.now c.args.side.parts.now)) c.loop-i.i c.args.out.now c.loop-i.out c.put_line.new.out c.loop-i.invariant
+    (subst (λ v. Put (place c.args.asked.lists.now (plan_of c.args.side.left c.args.asked.shapes.now c.args.side.parts.now) c.args.side.base c.loop-i.i) (cell c.args.asked.lists.now (plan_of c.args.side.left c.args.asked.shapes.now c.args.side.parts.now) c.loop-i.i) (wide (plan_of c.args.side.left c.args.asked.shapes.now c.args.side.parts.now)) (c.loop-i.i * (1 + 2 * v)) c.loop-i.out c.put_line.new.out) n.width c.put_line.ensures)
 
 pub returns : goal.returns
 returns c =

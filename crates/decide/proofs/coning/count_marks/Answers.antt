@@ -8,8 +8,8 @@ use Rattle.decide.proofs.coning.count_marks.Goals.{then-marks-i, else-marks-i}
 pub loop-i-init : goal.loop-i-init
 loop-i-init c = sym (counted_zero (marked c.args.marks.now))
 
-pub overflow-add-many : goal.overflow-add-many
-overflow-add-many c = omega (arith, counted_few c.loop-i.i (marked c.args.marks.now))
+pub overflow_add-many : goal.overflow_add-many
+overflow_add-many c = omega (arith, counted_few c.loop-i.i (marked c.args.marks.now))
 
 pub loop-i-preserved : goal.loop-i-preserved
 loop-i-preserved c =

@@ -10,8 +10,8 @@ use Rattle.decide.specs.Surveying.{numbers_met, gaps_met}
 use Rattle.decide.proofs.Drawn.{draws_all, row_met, node_below}
 use Rattle.decide.proofs.coning.fill_cone.Goals as goal
 
-pub show-row-shows-requires : goal.show-row-shows-requires
-show-row-shows-requires c =
+pub show_row-shows-requires : goal.show_row-shows-requires
+show_row-shows-requires c =
     let f = c.fold.ensures.folds in
     record {
       whole = c.requires.answer.0;
@@ -31,17 +31,17 @@ returns c =
     let ls = deciding_in c.args.nodes.now c.args.answer.now c.args.n c.args.row.now in
     let ns = numbers_met (cond_at c.args.nodes.now c.args.known) ls c.args.row.now in
     let gs = gaps_met (cond_at c.args.nodes.now c.args.known) ls in
-    let m : Means c.fold.new.cone c.show-row-shows.new.cone (nodes_for (length c.args.row.now) ls) (row_cells ls c.args.row.now) (shows ls c.args.row.now) c.show-row-shows.result =
-    c.show-row-shows.ensures c.args.nodes.now (λ k l h. f.value (node_at (length c.args.row.now) c.args.answer.now k)
+    let m : Means c.fold.new.cone c.show_row-shows.new.cone (nodes_for (length c.args.row.now) ls) (row_cells ls c.args.row.now) (shows ls c.args.row.now) c.show_row-shows.result =
+    c.show_row-shows.ensures c.args.nodes.now (λ k l h. f.value (node_at (length c.args.row.now) c.args.answer.now k)
     (node_below (count c.args.nodes.now) c.args.n (length c.args.row.now) c.args.answer.now k c.requires.answer.1.1 l) (c.requires.roots.1 k (omega arith) l h)) in
     let s : get_or c.fold.new.places c.args.known 0 < count c.fold.new.cone = f.stand c.args.known c.requires.store.1 c.requires.roots.0 in
-    let v : Covered c.show-row-shows.new.cone ns gs =
+    let v : Covered c.show_row-shows.new.cone ns gs =
     m.covered ns gs (f.covered ns gs (c.begin.ensures.covered ns gs) (draws_all ns gs c.args.nodes.now (count c.args.nodes.now) c.args.marks.now (omega arith) c.requires.covered))
     (row_met (cond_at c.args.nodes.now c.args.known) ls c.args.row.now) in
     record {
       store = m.begun.fits;
-      known = λ w. ap (holds w) (grown_cond c.fold.new.cone c.show-row-shows.new.cone m.grown (get_or c.fold.new.places c.args.known 0) s) ∙ f.value c.args.known c.requires.store.1 c.requires.roots.0 w;
+      known = λ w. ap (holds w) (grown_cond c.fold.new.cone c.show_row-shows.new.cone m.grown (get_or c.fold.new.places c.args.known 0) s) ∙ f.value c.args.known c.requires.store.1 c.requires.roots.0 w;
       shows = m.value;
       known_inside = v (get_or c.fold.new.places c.args.known 0) (omega (arith, m.grown.more));
-      shows_inside = v c.show-row-shows.result m.stands;
+      shows_inside = v c.show_row-shows.result m.stands;
     }

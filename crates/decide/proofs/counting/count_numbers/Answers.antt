@@ -9,8 +9,8 @@ use Rattle.decide.proofs.counting.count_numbers.Goals as goal
 pub loop-number-init : goal.loop-number-init
 loop-number-init c = (omega arith, sym (counted_zero (has (numbers_in (marked_cells c.args.nodes.now c.args.marks.now c.args.n) ++ c.args.row.now))))
 
-pub overflow-add-many : goal.overflow-add-many
-overflow-add-many c = omega (arith, c.loop-number.invariant.1, counted_marked c.loop-number.low c.args.nodes.now c.args.marks.now c.args.n c.args.row.now)
+pub overflow_add-many : goal.overflow_add-many
+overflow_add-many c = omega (arith, c.loop-number.invariant.1, counted_marked c.loop-number.low c.args.nodes.now c.args.marks.now c.args.n c.args.row.now)
 
 pub returns-then-number : goal.returns-then-number
 returns-then-number c =
@@ -29,6 +29,6 @@ loop-number-preserved c = (omega arith, omega (arith, counted_least _ _ _ c.in-S
 
 pub returns : goal.returns
 returns c = record {
-  count = c.loop-number.invariant.1 ∙ sym (counted_none_left _ _ (2 ^ 64) (omega arith) c.in-default.ensures);
+  count = c.loop-number.invariant.1 ∙ sym (counted_none_left _ _ (2 ^ 64) (omega arith) c.in_default.ensures);
   small = omega (arith, c.loop-number.invariant.1, counted_marked c.loop-number.low c.args.nodes.now c.args.marks.now c.args.n c.args.row.now);
 }

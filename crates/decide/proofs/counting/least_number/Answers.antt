@@ -9,14 +9,14 @@ use Rattle.decide.proofs.counting.least_number.Goals.{then-marks-i, else-marks-i
 
 pub loop-i-init : goal.loop-i-init
 unfolding marked_cells numbers_in
-loop-i-init c = c.least-in-row-best.ensures
+loop-i-init c = c.least_in_row-best.ensures
 
 pub loop-i-preserved : goal.loop-i-preserved
 loop-i-preserved c =
     elim c.if-marks-i.branch [
       | then-marks-i w ↦
-          rw (w.best-is, marked_more c.args.nodes.now c.args.marks.now c.loop-i.i w.if-marks-i.true, numbers_app (own_cells (decoded c.args.nodes.now c.loop-i.i)) (marked_cells c.args.nodes.now c.args.marks.now c.loop-i.i), append_assoc, ← w.node-at.ensures.read)
-          (w.lower-by-node-best.ensures (numbers_in (marked_cells c.args.nodes.now c.args.marks.now c.loop-i.i) ++ c.args.row.now) c.loop-i.invariant)
+          rw (w.best-is, marked_more c.args.nodes.now c.args.marks.now c.loop-i.i w.if-marks-i.true, numbers_app (own_cells (decoded c.args.nodes.now c.loop-i.i)) (marked_cells c.args.nodes.now c.args.marks.now c.loop-i.i), append_assoc, ← w.node_at.ensures.read)
+          (w.lower_by_node-best.ensures (numbers_in (marked_cells c.args.nodes.now c.args.marks.now c.loop-i.i) ++ c.args.row.now) c.loop-i.invariant)
       | else-marks-i w ↦ rw (w.best-is, marked_pass c.args.nodes.now c.args.marks.now c.loop-i.i w.if-marks-i.false) c.loop-i.invariant
     ]
 

@@ -8,8 +8,8 @@ use Rattle.decide.proofs.counting.lower_by_node.Goals as goal
 pub returns-in-Equal : goal.returns-in-Equal
 returns-in-Equal c = λ xs h.
     rw (c.in-Equal.is, own_equal c.in-Equal.a c.in-Equal.b (rw c.in-Equal.is at c.requires.named), numbers_app (cell_of c.in-Equal.a ∷ []) (cell_of c.in-Equal.b ∷ []), append_assoc)
-    (c.lower-by-cell-in-Equal.ensures (numbers_in (cell_of c.in-Equal.b ∷ []) ++ xs) (c.lower-by-cell.ensures xs h))
+    (c.lower_by_cell-in-Equal.ensures (numbers_in (cell_of c.in-Equal.b ∷ []) ++ xs) (c.lower_by_cell.ensures xs h))
 
-pub returns-in-default : goal.returns-in-default
+pub returns-in_default : goal.returns-in_default
 unfolding numbers_in
-returns-in-default c = λ xs h. rw (own_other c.args.node c.in-default.not-Equal) h
+returns-in_default c = λ xs h. rw (own_other c.args.node c.in_default.not-Equal) h

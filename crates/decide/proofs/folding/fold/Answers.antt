@@ -17,9 +17,9 @@ build-requires c =
     let ys = c.loop-i.cone in let ps = c.loop-i.places in let f = c.loop-i.invariant.0 in
     let l : i < n = c.loop-i-test.true in
     let t : get_or marks i false ≡ true = c.if-marks-i.true in
-    let q : c.node-at.result ≡ decoded nodes i = c.node-at.ensures.read in
+    let q : c.node_at.result ≡ decoded nodes i = c.node_at.ensures.read in
     let e : c.renamed-node.result ≡ renamed (place_in i ps) (decoded nodes i) = c.renamed-node.ensures ∙ ap (renamed (place_in i ps)) q in
-    let m : Named (decoded nodes i) = subst Named q c.node-at.ensures.named in
+    let m : Named (decoded nodes i) = subst Named q c.node_at.ensures.named in
     record {
       begun = f.begun;
       tidy = f.tidy;
@@ -39,9 +39,9 @@ loop-i-preserved c =
       | then-marks-i w ↦
           let zs = w.build.new.cone in let r = w.build.result in
           let t : get_or marks i false ≡ true = w.if-marks-i.true in
-          let q : w.node-at.result ≡ decoded nodes i = w.node-at.ensures.read in
+          let q : w.node_at.result ≡ decoded nodes i = w.node_at.ensures.read in
           let e : w.renamed-node.result ≡ renamed (place_in i ps) (decoded nodes i) = w.renamed-node.ensures ∙ ap (renamed (place_in i ps)) q in
-          let m : Named (decoded nodes i) = subst Named q w.node-at.ensures.named in
+          let m : Named (decoded nodes i) = subst Named q w.node_at.ensures.named in
           let b : Built ys zs (renamed (place_in i ps) (decoded nodes i)) r = subst (λ (k : Node). Built ys zs k r) e w.build.ensures in
           rw (w.places-is, w.cone-is) (
             folds_more nodes i n marks xs ys ps inv.0 c.requires.closed l t (omega (arith, c.requires.stand.0)) m zs r b long,

@@ -5,7 +5,7 @@ use Rattle.decide.proofs.lanes.work_out.Goals as goal
 
 pub loop-i-preserved : goal.loop-i-preserved
 loop-i-preserved c =
-    let i = c.loop-i.i in let node = c.node-at-node in
+    let i = c.loop-i.i in let node = c.node_at-node in
     let stands : i < count c.args.cone.now = omega arith in
     below_more _ _
     (λ k h. let ne : k ≢ c.loop-i.i = omega arith in λ l m t. rw get_or-set_other (c.loop-i.invariant k h l m t))

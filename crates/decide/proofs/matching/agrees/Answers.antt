@@ -2,8 +2,8 @@ use Rattle.std.proofs.Common.{◌*◌, length, drop, refl, arith}
 use Rattle.decide.proofs.Agreeing.{agrees_step, agrees_none}
 use Rattle.decide.proofs.matching.agrees.Goals as goal
 
-pub returns-then-not-agrees-cell : goal.returns-then-not-agrees-cell
-returns-then-not-agrees-cell c =
+pub returns-then-not-agrees_cell : goal.returns-then-not-agrees_cell
+returns-then-not-agrees_cell c =
     let e = agrees_step (length c.args.row.now) c.loop-a.a c.args.line.now c.args.row.now c.loop-a-test.true refl in grind arith
 
 pub loop-a-preserved : goal.loop-a-preserved

@@ -15,36 +15,36 @@ loop-i-init c = (
       (λ nodes. lines_none nodes c.args.n (length c.args.row.now) c.args.answer.now),
 )
 
-pub offset-bounds-answer-i : goal.offset-bounds-answer-i
-offset-bounds-answer-i c = omega (arith, line_within (c.loop-i.i - 1) c.args.n (line_size (length c.args.row.now)) (omega arith), c.requires.whole)
+pub offset_bounds-answer-i : goal.offset_bounds-answer-i
+offset_bounds-answer-i c = omega (arith, line_within (c.loop-i.i - 1) c.args.n (line_size (length c.args.row.now)) (omega arith), c.requires.whole)
 
-pub slice-bounds-line-count : goal.slice-bounds-line-count
-slice-bounds-line-count c = omega (arith, line_within (c.loop-i.i - 1) c.args.n (line_size (length c.args.row.now)) (omega arith), c.requires.whole)
+pub slice_bounds-line-count : goal.slice_bounds-line-count
+slice_bounds-line-count c = omega (arith, line_within (c.loop-i.i - 1) c.args.n (line_size (length c.args.row.now)) (omega arith), c.requires.whole)
 
-pub slice-bounds-line-start : goal.slice-bounds-line-start
-slice-bounds-line-start c = omega (arith, line_within (c.loop-i.i - 1) c.args.n (line_size (length c.args.row.now)) (omega arith), c.requires.whole)
+pub slice_bounds-line-start : goal.slice_bounds-line-start
+slice_bounds-line-start c = omega (arith, line_within (c.loop-i.i - 1) c.args.n (line_size (length c.args.row.now)) (omega arith), c.requires.whole)
 
 pub agrees-requires : goal.agrees-requires
 agrees-requires c =
     part_long c.args.answer.now ((c.loop-i.i - 1) * line_size (length c.args.row.now)) (line_size (length c.args.row.now))
     (omega (arith, line_within (c.loop-i.i - 1) c.args.n (line_size (length c.args.row.now)) (omega arith), c.requires.whole))
 
-pub line-node-requires : goal.line-node-requires
-line-node-requires c = omega (
+pub line_node-requires : goal.line_node-requires
+line_node-requires c = omega (
   arith,
   part_long c.args.answer.now ((c.loop-i.i - 1) * line_size (length c.args.row.now)) (line_size (length c.args.row.now))
       (omega (arith, line_within (c.loop-i.i - 1) c.args.n (line_size (length c.args.row.now)) (omega arith), c.requires.whole)),
 )
 
-pub bounds-marks-line-node : goal.bounds-marks-line-node
-bounds-marks-line-node c =
-    let r = simp take_rest at c.line-node.ensures in
+pub bounds-marks-line_node : goal.bounds-marks-line_node
+bounds-marks-line_node c =
+    let r = simp take_rest at c.line_node.ensures in
     let z : 0 + (c.loop-i.i - 1) * line_size (length c.args.row.now) ≡ (c.loop-i.i - 1) * line_size (length c.args.row.now) = omega arith in
     let l = line_named c.args.count c.args.n (length c.args.row.now) (c.loop-i.i - 1) 0 c.args.answer.now (drop ((c.loop-i.i - 1) * line_size (length c.args.row.now)) c.args.answer.now) (omega arith) (rw z refl) c.requires.named.0 in
     omega arith
 
-pub note-cells-requires : goal.note-cells-requires
-note-cells-requires c = record {
+pub note_cells-requires : goal.note_cells-requires
+note_cells-requires c = record {
   long = part_long c.args.answer.now ((c.loop-i.i - 1) * line_size (length c.args.row.now)) (line_size (length c.args.row.now))
       (omega (arith, line_within (c.loop-i.i - 1) c.args.n (line_size (length c.args.row.now)) (omega arith), c.requires.whole));
   cells = rw (take_rest, drop-drop 1 ((c.loop-i.i - 1) * line_size (length c.args.row.now)) c.args.answer.now)
@@ -55,7 +55,7 @@ note-cells-requires c = record {
 pub loop-i-preserved-then-agrees : goal.loop-i-preserved-then-agrees
 loop-i-preserved-then-agrees c =
     let line = drop ((c.loop-i.i - 1) * line_size (length c.args.row.now)) c.args.answer.now in
-    let r = simp take_rest at c.line-node.ensures in
+    let r = simp take_rest at c.line_node.ensures in
     let z : 0 + (c.loop-i.i - 1) * line_size (length c.args.row.now) ≡ (c.loop-i.i - 1) * line_size (length c.args.row.now) = omega arith in
     let l = line_named c.args.count c.args.n (length c.args.row.now) (c.loop-i.i - 1) 0 c.args.answer.now line (omega arith) (rw z refl) c.requires.named.0 in
     let y = sym (simp take_rest at c.agrees.ensures) ∙ c.if-agrees.true in
@@ -65,8 +65,8 @@ loop-i-preserved-then-agrees c =
           (λ nodes. drop c.loop-i.i (lines_in nodes c.args.n (length c.args.row.now) c.args.answer.now))
           (λ nodes. drop (c.loop-i.i - 1) (lines_in nodes c.args.n (length c.args.row.now) c.args.answer.now))
           (λ nodes. lines_back nodes c.args.n (length c.args.row.now) c.loop-i.i c.args.answer.now line c.loop-i-test.true (omega arith) refl)
-          c.loop-i.marks c.loop-i.notes c.loop-i.invariant.1 c.note-cells.new.notes y
-          l (omega arith) c.note-cells.ensures.few (λ cs n. simp take_rest at (c.note-cells.ensures.noted cs n)),
+          c.loop-i.marks c.loop-i.notes c.loop-i.invariant.1 c.note_cells.new.notes y
+          l (omega arith) c.note_cells.ensures.few (λ cs n. simp take_rest at (c.note_cells.ensures.noted cs n)),
     )
 
 pub loop-i-preserved : goal.loop-i-preserved

@@ -10,14 +10,14 @@ loop-a-init c = (c.requires.few, λ cs s. rw (cells_none c.args.w (drop 1 c.args
 pub note-requires : goal.note-requires
 note-requires c = record {
   few = c.loop-a.invariant.0;
-  named = rw c.line-cell.ensures (cell_named c.args.w (c.loop-a.a - 1) c.args.line.now (omega arith) c.requires.cells);
+  named = rw c.line_cell.ensures (cell_named c.args.w (c.loop-a.a - 1) c.args.line.now (omega arith) c.requires.cells);
 }
 
 pub loop-a-preserved : goal.loop-a-preserved
 loop-a-preserved c = (
   c.note.ensures.few,
   λ cs s.
-      rw (cells_back c.args.w c.loop-a.a c.args.line.now (cell_of c.line-cell.result) c.loop-a-test.true (omega arith) c.line-cell.ensures)
+      rw (cells_back c.args.w c.loop-a.a c.args.line.now (cell_of c.line_cell.result) c.loop-a-test.true (omega arith) c.line_cell.ensures)
       (c.note.ensures.noted (drop c.loop-a.a (cells_in c.args.w (drop 1 c.args.line.now)) ++ cs) (c.loop-a.invariant.1 cs s)),
 )
 

@@ -9,17 +9,17 @@ pub loop-i-init : goal.loop-i-init
 unfolding marked_cells
 loop-i-init c = (c.requires.few, λ cs s. s)
 
-pub note-node-requires : goal.note-node-requires
-note-node-requires c = record { few = c.loop-i.invariant.0; named = c.node-at.ensures.named }
+pub note_node-requires : goal.note_node-requires
+note_node-requires c = record { few = c.loop-i.invariant.0; named = c.node_at.ensures.named }
 
 pub loop-i-preserved : goal.loop-i-preserved
 loop-i-preserved c =
     elim c.if-marks-i.branch [
       | then-marks-i w ↦ rw w.notes-is (
-        w.note-node.ensures.few,
+        w.note_node.ensures.few,
         λ cs s.
-            rw (marked_more c.args.nodes.now c.args.marks.now c.loop-i.i w.if-marks-i.true, append_assoc (own_cells (decoded c.args.nodes.now c.loop-i.i)) (marked_cells c.args.nodes.now c.args.marks.now c.loop-i.i) cs, ← w.node-at.ensures.read)
-            (w.note-node.ensures.noted (marked_cells c.args.nodes.now c.args.marks.now c.loop-i.i ++ cs) (c.loop-i.invariant.1 cs s)),
+            rw (marked_more c.args.nodes.now c.args.marks.now c.loop-i.i w.if-marks-i.true, append_assoc (own_cells (decoded c.args.nodes.now c.loop-i.i)) (marked_cells c.args.nodes.now c.args.marks.now c.loop-i.i) cs, ← w.node_at.ensures.read)
+            (w.note_node.ensures.noted (marked_cells c.args.nodes.now c.args.marks.now c.loop-i.i ++ cs) (c.loop-i.invariant.1 cs s)),
       )
       | else-marks-i w ↦ rw w.notes-is (c.loop-i.invariant.0, λ cs s. rw (marked_pass c.args.nodes.now c.args.marks.now c.loop-i.i w.if-marks-i.false) (c.loop-i.invariant.1 cs s))
     ]

@@ -9,5 +9,5 @@ returns-in-Equal c = record {
   noted = λ cs s. rw (c.in-Equal.is, own_equal c.in-Equal.a c.in-Equal.b (rw c.in-Equal.is at c.requires.named)) (c.note-in-Equal.ensures.noted (cell_of c.in-Equal.b ∷ cs) (c.note.ensures.noted cs s));
 }
 
-pub returns-in-default : goal.returns-in-default
-returns-in-default c = record { few = c.requires.few; noted = λ cs s. rw (own_other c.args.node c.in-default.not-Equal) s }
+pub returns-in_default : goal.returns-in_default
+returns-in_default c = record { few = c.requires.few; noted = λ cs s. rw (own_other c.args.node c.in_default.not-Equal) s }

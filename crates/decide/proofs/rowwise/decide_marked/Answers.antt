@@ -8,7 +8,7 @@ use Rattle.decide.proofs.rowwise.decide_marked.Goals as goal
 
 pub survey-notes-requires : goal.survey-notes-requires
 survey-notes-requires c =
-    let k = c.in-ok-count.ensures.value in
+    let k = c.in_ok-count.ensures.value in
     let e = c.if-row-width.false in
     record {
       store = (rw k.all at k.store, omega (arith, k.all, k.small, c.requires));
@@ -18,19 +18,19 @@ survey-notes-requires c =
       named = rw (e, sym k.all) k.named;
     }
 
-pub returns-in-err-names : goal.returns-in-err-names
-returns-in-err-names c =
-    let k = c.in-ok-count.ensures.value in
-    let h = told_row c.args.lists.now c.args.nodes.now c.args.answer.now c.args.lines c.args.width c.args.row.now c.in-ok-count.ensures.refusal c.if-row-width.false
-    (told c.in-err-names.field-0.0) (99, 0) (c.in-err-names.ensures.refusal (cond_at c.args.nodes.now (get_or c.args.lists.now 1 0)) (deciding_in c.args.nodes.now c.args.answer.now c.args.lines c.args.row.now) (rw (sym k.all) at c.survey-notes.ensures.surveyed)) in
+pub returns-in_err-names : goal.returns-in_err-names
+returns-in_err-names c =
+    let k = c.in_ok-count.ensures.value in
+    let h = told_row c.args.lists.now c.args.nodes.now c.args.answer.now c.args.lines c.args.width c.args.row.now c.in_ok-count.ensures.refusal c.if-row-width.false
+    (told c.in_err-names.field-0.0) (99, 0) (c.in_err-names.ensures.refusal (cond_at c.args.nodes.now (get_or c.args.lists.now 1 0)) (deciding_in c.args.nodes.now c.args.answer.now c.args.lines c.args.row.now) (rw (sym k.all) at c.survey-notes.ensures.surveyed)) in
     search rules
 
 pub returns : goal.returns
 returns c =
-    let k = c.in-ok-count.ensures.value in
-    let t = told_nothing c.args.lists.now c.args.nodes.now c.args.answer.now c.args.lines c.args.width c.args.row.now c.in-ok-count.ensures.refusal c.if-row-width.false
-    (c.in-ok-names.ensures.refusal (cond_at c.args.nodes.now (get_or c.args.lists.now 1 0)) (deciding_in c.args.nodes.now c.args.answer.now c.args.lines c.args.row.now) (rw (sym k.all) at c.survey-notes.ensures.surveyed)) in
+    let k = c.in_ok-count.ensures.value in
+    let t = told_nothing c.args.lists.now c.args.nodes.now c.args.answer.now c.args.lines c.args.width c.args.row.now c.in_ok-count.ensures.refusal c.if-row-width.false
+    (c.in_ok-names.ensures.refusal (cond_at c.args.nodes.now (get_or c.args.lists.now 1 0)) (deciding_in c.args.nodes.now c.args.answer.now c.args.lines c.args.row.now) (rw (sym k.all) at c.survey-notes.ensures.surveyed)) in
     record {
-      refusal = told_late c.settle-row.result (decide_told c.args.lists.now c.args.nodes.now c.args.answer.now c.args.lines c.args.width c.args.row.now) t c.settle-row.ensures.refused;
-      decided = rw c.if-row-width.false at c.settle-row.ensures.decided;
+      refusal = told_late c.settle_row.result (decide_told c.args.lists.now c.args.nodes.now c.args.answer.now c.args.lines c.args.width c.args.row.now) t c.settle_row.ensures.refused;
+      decided = rw c.if-row-width.false at c.settle_row.ensures.decided;
     }

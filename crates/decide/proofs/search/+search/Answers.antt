@@ -9,8 +9,8 @@ use Rattle.decide.proofs.search.+search.Goals.{then-count-gt242, else-count-gt24
 
 pub returns-then-depth-task : goal.returns-then-depth-task
 returns-then-depth-task t c =
-    at_leaves c.args.cone.now c.args.task.now c.requires.task (omega arith) c.args.depth (omega arith) c.args.rows.now c.might-meet-lanes.result c.args.met c.or-first.result
-    c.might-meet-lanes.ensures c.requires.sound c.or-first.ensures
+    at_leaves c.args.cone.now c.args.task.now c.requires.task (omega arith) c.args.depth (omega arith) c.args.rows.now c.might_meet-lanes.result c.args.met c.or_first.result
+    c.might_meet-lanes.ensures c.requires.sound c.or_first.ensures
 
 pub search-met-requires : goal.search-met-requires
 search-met-requires t c =
@@ -38,8 +38,8 @@ search-met-requires t c =
       ),
     )
 
-pub offset-bounds-rows-l : goal.offset-bounds-rows-l
-offset-bounds-rows-l t c = omega (arith, c.requires.few, c.loop-l-test.true)
+pub offset_bounds-rows-l : goal.offset_bounds-rows-l
+offset_bounds-rows-l t c = omega (arith, c.requires.few, c.loop-l-test.true)
 
 pub loop-l-preserved : goal.loop-l-preserved
 loop-l-preserved t c =
@@ -59,7 +59,7 @@ loop-l-preserved t c =
           (c.requires.begun l (omega arith)) w.extend-count.result w.extend-count.new.next w.extend-count.ensures space (omega arith))
       | else-wants w ↦
           rw (w.count-is, w.next-is) (passed nodes task c.requires.task long depth deep rows c.args.met l next c.if-count-gt242.count c.if-count-gt242.met ready
-          c.might-meet-lanes.result (c.might-meet-lanes.ensures l (omega arith)) (sym c.wants.ensures ∙ w.if-wants.false))
+          c.might_meet-lanes.result (c.might_meet-lanes.ensures l (omega arith)) (sym c.wants.ensures ∙ w.if-wants.false))
     ]
 
 pub search-requires : goal.search-requires

@@ -8,14 +8,14 @@ use Rattle.decide.proofs.showing.count_lines.Goals as goal
 pub loop-i-init : goal.loop-i-init
 loop-i-init c = (λ nodes. rw (from_none nodes c.args.answer.now c.args.n c.args.row.now) refl, omega arith)
 
-pub offset-bounds-answer-i : goal.offset-bounds-answer-i
-offset-bounds-answer-i c = omega (arith, line_within (c.loop-i.i - 1) c.args.n (line_size (length c.args.row.now)) (omega arith), c.requires)
+pub offset_bounds-answer-i : goal.offset_bounds-answer-i
+offset_bounds-answer-i c = omega (arith, line_within (c.loop-i.i - 1) c.args.n (line_size (length c.args.row.now)) (omega arith), c.requires)
 
-pub slice-bounds-agrees-count : goal.slice-bounds-agrees-count
-slice-bounds-agrees-count c = omega (arith, line_within (c.loop-i.i - 1) c.args.n (line_size (length c.args.row.now)) (omega arith), c.requires)
+pub slice_bounds-agrees-count : goal.slice_bounds-agrees-count
+slice_bounds-agrees-count c = omega (arith, line_within (c.loop-i.i - 1) c.args.n (line_size (length c.args.row.now)) (omega arith), c.requires)
 
-pub slice-bounds-agrees-start : goal.slice-bounds-agrees-start
-slice-bounds-agrees-start c = omega (arith, line_within (c.loop-i.i - 1) c.args.n (line_size (length c.args.row.now)) (omega arith), c.requires)
+pub slice_bounds-agrees-start : goal.slice_bounds-agrees-start
+slice_bounds-agrees-start c = omega (arith, line_within (c.loop-i.i - 1) c.args.n (line_size (length c.args.row.now)) (omega arith), c.requires)
 
 pub agrees-requires : goal.agrees-requires
 agrees-requires c =

@@ -9,45 +9,45 @@ use Rattle.decide.proofs.showing.show_row.Goals as goal
 pub loop-i-init : goal.loop-i-init
 loop-i-init c = showing_none c.args.cone.now c.args.answer.now c.args.row.now c.args.places.now c.args.n c.requires.cone.0 c.requires.cone.1.0
 
-pub offset-bounds-answer-i : goal.offset-bounds-answer-i
-offset-bounds-answer-i c = omega (arith, line_within (c.loop-i.i - 1) c.args.n (line_size (length c.args.row.now)) (omega arith), c.requires.whole)
+pub offset_bounds-answer-i : goal.offset_bounds-answer-i
+offset_bounds-answer-i c = omega (arith, line_within (c.loop-i.i - 1) c.args.n (line_size (length c.args.row.now)) (omega arith), c.requires.whole)
 
-pub slice-bounds-line-count : goal.slice-bounds-line-count
-slice-bounds-line-count c = omega (arith, line_within (c.loop-i.i - 1) c.args.n (line_size (length c.args.row.now)) (omega arith), c.requires.whole)
+pub slice_bounds-line-count : goal.slice_bounds-line-count
+slice_bounds-line-count c = omega (arith, line_within (c.loop-i.i - 1) c.args.n (line_size (length c.args.row.now)) (omega arith), c.requires.whole)
 
-pub slice-bounds-line-start : goal.slice-bounds-line-start
-slice-bounds-line-start c = omega (arith, line_within (c.loop-i.i - 1) c.args.n (line_size (length c.args.row.now)) (omega arith), c.requires.whole)
+pub slice_bounds-line-start : goal.slice_bounds-line-start
+slice_bounds-line-start c = omega (arith, line_within (c.loop-i.i - 1) c.args.n (line_size (length c.args.row.now)) (omega arith), c.requires.whole)
 
 pub agrees-requires : goal.agrees-requires
 agrees-requires c =
     part_long c.args.answer.now ((c.loop-i.i - 1) * line_size (length c.args.row.now)) (line_size (length c.args.row.now))
     (omega (arith, line_within (c.loop-i.i - 1) c.args.n (line_size (length c.args.row.now)) (omega arith), c.requires.whole))
 
-pub line-node-requires : goal.line-node-requires
-line-node-requires c = omega (
+pub line_node-requires : goal.line_node-requires
+line_node-requires c = omega (
   arith,
   part_long c.args.answer.now ((c.loop-i.i - 1) * line_size (length c.args.row.now)) (line_size (length c.args.row.now))
       (omega (arith, line_within (c.loop-i.i - 1) c.args.n (line_size (length c.args.row.now)) (omega arith), c.requires.whole)),
 )
 
-pub offset-bounds-places-line-node : goal.offset-bounds-places-line-node
-offset-bounds-places-line-node c =
+pub offset_bounds-places-line_node : goal.offset_bounds-places-line_node
+offset_bounds-places-line_node c =
     let y = sym (simp take_rest at c.agrees.ensures) ∙ c.if-agrees.true in
-    let r = simp take_rest at c.line-node.ensures in
+    let r = simp take_rest at c.line_node.ensures in
     let h = c.requires.placed (c.loop-i.i - 1) (omega arith) y in
     omega (arith, h.0)
 
-pub bounds-places-line-node : goal.bounds-places-line-node
-bounds-places-line-node c =
+pub bounds-places-line_node : goal.bounds-places-line_node
+bounds-places-line_node c =
     let y = sym (simp take_rest at c.agrees.ensures) ∙ c.if-agrees.true in
-    let r = simp take_rest at c.line-node.ensures in
+    let r = simp take_rest at c.line_node.ensures in
     let h = c.requires.placed (c.loop-i.i - 1) (omega arith) y in
     omega (arith, h.0)
 
-pub give-row-given-requires : goal.give-row-given-requires
-give-row-given-requires c =
+pub give_row-given-requires : goal.give_row-given-requires
+give_row-given-requires c =
     let y = sym (simp take_rest at c.agrees.ensures) ∙ c.if-agrees.true in
-    let r = simp take_rest at c.line-node.ensures in
+    let r = simp take_rest at c.line_node.ensures in
     let h = c.requires.placed (c.loop-i.i - 1) (omega arith) y in
     let m = room_here [] c.args.answer.now c.args.n c.args.row.now c.loop-i.i c.loop-i-test.true (omega arith) y in
     let f = c.loop-i.invariant.few [] in
@@ -65,15 +65,15 @@ give-row-given-requires c =
       index = omega (arith, c.requires.cone.1.1);
     }
 
-pub both-of-here-requires : goal.both-of-here-requires
-both-of-here-requires c =
+pub both_of-here-requires : goal.both_of-here-requires
+both_of-here-requires c =
     let y = sym (simp take_rest at c.agrees.ensures) ∙ c.if-agrees.true in
-    let r = simp take_rest at c.line-node.ensures in
+    let r = simp take_rest at c.line_node.ensures in
     let h = c.requires.placed (c.loop-i.i - 1) (omega arith) y in
     let m = room_here [] c.args.answer.now c.args.n c.args.row.now c.loop-i.i c.loop-i-test.true (omega arith) y in
     let f = c.loop-i.invariant.few [] in
     let t = c.requires.room [] in
-    let g = c.give-row-given.ensures in
+    let g = c.give_row-given.ensures in
     record {
       begun = g.begun;
       tidy = g.tidy;
@@ -82,16 +82,16 @@ both-of-here-requires c =
       index = omega (arith, c.requires.cone.1.1);
     }
 
-pub either-of-shown-requires : goal.either-of-shown-requires
-either-of-shown-requires c =
+pub either_of-shown-requires : goal.either_of-shown-requires
+either_of-shown-requires c =
     let y = sym (simp take_rest at c.agrees.ensures) ∙ c.if-agrees.true in
-    let r = simp take_rest at c.line-node.ensures in
+    let r = simp take_rest at c.line_node.ensures in
     let h = c.requires.placed (c.loop-i.i - 1) (omega arith) y in
     let m = room_here [] c.args.answer.now c.args.n c.args.row.now c.loop-i.i c.loop-i-test.true (omega arith) y in
     let f = c.loop-i.invariant.few [] in
     let t = c.requires.room [] in
-    let g = c.give-row-given.ensures in
-    let b = c.both-of-here.ensures in
+    let g = c.give_row-given.ensures in
+    let b = c.both_of-here.ensures in
     record {
       begun = b.begun;
       tidy = b.tidy;
@@ -103,11 +103,11 @@ either-of-shown-requires c =
 pub loop-i-preserved-then-agrees : goal.loop-i-preserved-then-agrees
 loop-i-preserved-then-agrees c =
     let y = sym (simp take_rest at c.agrees.ensures) ∙ c.if-agrees.true in
-    let r = simp take_rest at c.line-node.ensures in
+    let r = simp take_rest at c.line_node.ensures in
     let h = c.requires.placed (c.loop-i.i - 1) (omega arith) y in
-    showing_more c.args.cone.now c.loop-i.cone c.give-row-given.new.cone c.both-of-here.new.cone c.either-of-shown.new.cone c.args.answer.now c.args.row.now c.args.places.now
-    c.args.n c.loop-i.i c.loop-i.shown c.give-row-given.result c.both-of-here.result c.either-of-shown.result c.loop-i-test.true (omega arith) y h.1 c.loop-i.invariant
-    (simp take_rest at c.give-row-given.ensures) (rw r at c.both-of-here.ensures) c.either-of-shown.ensures
+    showing_more c.args.cone.now c.loop-i.cone c.give_row-given.new.cone c.both_of-here.new.cone c.either_of-shown.new.cone c.args.answer.now c.args.row.now c.args.places.now
+    c.args.n c.loop-i.i c.loop-i.shown c.give_row-given.result c.both_of-here.result c.either_of-shown.result c.loop-i-test.true (omega arith) y h.1 c.loop-i.invariant
+    (simp take_rest at c.give_row-given.ensures) (rw r at c.both_of-here.ensures) c.either_of-shown.ensures
 
 pub loop-i-preserved : goal.loop-i-preserved
 loop-i-preserved c =

@@ -8,13 +8,13 @@ pub returns : goal.returns
 returns c = record {
   known =
       known_marked c.args.nodes.now (count c.args.nodes.now) c.args.known c.args.row.now (λ nodes. lines_in nodes c.args.n (length c.args.row.now) c.args.answer.now)
-      c.clear.new.marks c.mark-lines.new.marks c.close.new.marks c.note-row.new.notes c.mark-lines.new.notes c.note-marked.new.notes
-      (omega arith) c.requires.stands (omega arith) c.clear.ensures (c.note-row.ensures.noted [] c.none-notes.ensures.noted) c.mark-lines.ensures.matched
-      c.close.ensures.closed c.close.ensures.kept c.close.ensures.reached c.note-marked.ensures.few c.note-marked.ensures.noted;
-  lines = λ k l m y. c.close.ensures.kept _ (c.mark-lines.ensures.lines k l m y);
+      c.clear.new.marks c.mark_lines.new.marks c.close.new.marks c.note_row.new.notes c.mark_lines.new.notes c.note_marked.new.notes
+      (omega arith) c.requires.stands (omega arith) c.clear.ensures (c.note_row.ensures.noted [] c.none-notes.ensures.noted) c.mark_lines.ensures.matched
+      c.close.ensures.closed c.close.ensures.kept c.close.ensures.reached c.note_marked.ensures.few c.note_marked.ensures.noted;
+  lines = λ k l m y. c.close.ensures.kept _ (c.mark_lines.ensures.lines k l m y);
   surveyed =
       surveyed c.args.nodes.now (count c.args.nodes.now) c.args.known c.args.row.now (λ nodes. lines_in nodes c.args.n (length c.args.row.now) c.args.answer.now)
-      c.clear.new.marks c.mark-lines.new.marks c.close.new.marks c.note-row.new.notes c.mark-lines.new.notes c.note-marked.new.notes
-      (omega arith) c.requires.stands (omega arith) c.clear.ensures (c.note-row.ensures.noted [] c.none-notes.ensures.noted) c.mark-lines.ensures.matched
-      c.close.ensures.closed c.close.ensures.kept c.close.ensures.reached c.note-marked.ensures.few c.note-marked.ensures.noted;
+      c.clear.new.marks c.mark_lines.new.marks c.close.new.marks c.note_row.new.notes c.mark_lines.new.notes c.note_marked.new.notes
+      (omega arith) c.requires.stands (omega arith) c.clear.ensures (c.note_row.ensures.noted [] c.none-notes.ensures.noted) c.mark_lines.ensures.matched
+      c.close.ensures.closed c.close.ensures.kept c.close.ensures.reached c.note_marked.ensures.few c.note_marked.ensures.noted;
 }

@@ -6,7 +6,7 @@ pub loop-init : goal.loop-init
 loop-init c = read_none _ _
 
 pub loop-preserved : goal.loop-preserved
-loop-preserved c = read_both _ 1 _ _ _ _ _ _ c.loop.invariant c.in-ok-next.ensures.1
+loop-preserved c = read_both _ 1 _ _ _ _ _ _ c.loop.invariant c.in_ok-next.ensures.1
 
 pub returns : goal.returns
 returns c =

@@ -5,14 +5,14 @@ use Rattle.list.specs.Lists.{filled}
 use Rattle.list.specs.Shapes.{rows_of}
 use Rattle.list.proofs.Reading.{filled_kept, filled_left, filled_all, line_named}
 use Rattle.list.proofs.filled.filled_lines.Goals as goal
-use Rattle.list.proofs.filled.filled_lines.Goals.{then-values-line-node+in-ok-row+in-ok-push, else-values-line-node}
+use Rattle.list.proofs.filled.filled_lines.Goals.{then-values-line_node+in_ok-row+in_ok-push, else-values-line_node}
 
 pub loop-i-init : goal.loop-i-init
 unfolding filled
 loop-i-init c nodes h = rw c.new-rows.ensures.items
 
-pub bounds-values-line-node : goal.bounds-values-line-node
-bounds-values-line-node c =
+pub bounds-values-line_node : goal.bounds-values-line_node
+bounds-values-line_node c =
     omega (
       arith,
       line_named (length c.args.values.now) c.args.shape.lines c.args.shape.width c.loop-i.i c.args.shape.at c.args.lists.now c.line-line.result.now
@@ -26,16 +26,16 @@ loop-i-preserved c nodes h =
     let b : get_or c.line-line.result.now 0 0 < length c.args.values.now
     = line_named (length c.args.values.now) sh.lines sh.width c.loop-i.i sh.at c.args.lists.now c.line-line.result.now
     c.loop-i-test.true c.line-line.ensures.is c.requires.named in
-    elim c.if-values-line-node.branch [
-      | then-values-line-node+in-ok-row+in-ok-push w ↦
-          ap rows_of w.rows-is ∙ (ap (map vec_items) w.in-ok-push.ensures.items ∙ (map_push vec_items (vec_items c.loop-i.rows) w.in-ok-row.row
+    elim c.if-values-line_node.branch [
+      | then-values-line_node+in_ok-row+in_ok-push w ↦
+          ap rows_of w.rows-is ∙ (ap (map vec_items) w.in_ok-push.ensures.items ∙ (map_push vec_items (vec_items c.loop-i.rows) w.in_ok-row.row
           ∙ filled_kept v nodes sh.lines sh.width c.loop-i.i sh.at c.args.lists.now c.line-line.result.now c.args.values.now
           (rows_of c.loop-i.rows) c.loop-i-test.true c.line-line.ensures.is h b (c.loop-i.invariant nodes h)
-          (vec_items w.in-ok-row.row) w.in-ok-row.ensures (cc w.if-values-line-node.true)))
-      | else-values-line-node w ↦
+          (vec_items w.in_ok-row.row) w.in_ok-row.ensures (cc w.if-values-line_node.true)))
+      | else-values-line_node w ↦
           ap rows_of w.rows-is
           ∙ filled_left v nodes sh.lines sh.width c.loop-i.i sh.at c.args.lists.now c.line-line.result.now c.args.values.now
-          (rows_of c.loop-i.rows) c.loop-i-test.true c.line-line.ensures.is h b (c.loop-i.invariant nodes h) (cc w.if-values-line-node.false)
+          (rows_of c.loop-i.rows) c.loop-i-test.true c.line-line.ensures.is h b (c.loop-i.invariant nodes h) (cc w.if-values-line_node.false)
     ]
 
 pub returns : goal.returns

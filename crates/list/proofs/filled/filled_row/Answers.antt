@@ -12,8 +12,8 @@ loop-a-init c = c.new-row.ensures.items
 
 pub loop-a-preserved : goal.loop-a-preserved
 loop-a-preserved c =
-    let pushed = chosen _ _ _ _ c.push.ensures.items (ap is_ok c.in-ok-push.was) in
-    cc (fill_more (numbers_of c.args.filling.now) c.args.w c.loop-a.a c.args.line.now (cell_of c.line-cell.result) c.loop-a-test.true c.line-cell.ensures)
+    let pushed = chosen _ _ _ _ c.push.ensures.items (ap is_ok c.in_ok-push.was) in
+    cc (fill_more (numbers_of c.args.filling.now) c.args.w c.loop-a.a c.args.line.now (cell_of c.line_cell.result) c.loop-a-test.true c.line_cell.ensures)
 
 pub returns : goal.returns
 returns c = c.loop-a.invariant ∙ fill_all (numbers_of c.args.filling.now) c.args.w c.loop-a.a (drop 1 c.args.line.now) (omega arith)

@@ -3,8 +3,8 @@ use Rattle.evaluate.specs.Shapes.{numbers_of}
 use Rattle.list.proofs.Reading.{no_list}
 use Rattle.list.proofs.filled.rows.Goals as goal
 
-pub returns-in-default : goal.returns-in-default
-returns-in-default c = record {
+pub returns-in_default : goal.returns-in_default
+returns-in_default c = record {
   refusal = search rules;
   rows = ap (map vec_items) c.new.ensures.items ∙ no_list (numbers_of c.args.filling) c.args.nodes.now c.args.lists.now c.args.t (search rules);
 }

@@ -11,12 +11,12 @@ returns-then-lists-eq1 c = record { refusal = sym (told_short c.args.lists.now (
 
 pub returns-then-fitting-count : goal.returns-then-fitting-count
 returns-then-fitting-count c = record {
-  refusal = sym (told_unfit c.args.lists.now c.fitting-lists-fitting.result (omega arith) (omega arith) (simp take_rest at c.fitting-lists-fitting.ensures) (λ e. omega arith));
+  refusal = sym (told_unfit c.args.lists.now c.fitting_lists-fitting.result (omega arith) (omega arith) (simp take_rest at c.fitting_lists-fitting.ensures) (λ e. omega arith));
   value = tt;
 }
 
 pub returns : goal.returns
-returns c = let e = simp take_rest at c.fitting-lists-fitting.ensures in record {
+returns c = let e = simp take_rest at c.fitting_lists-fitting.ensures in record {
   refusal = sym (told_fit c.args.lists.now (omega arith) (omega arith) (cc));
   value = omega arith;
 }

@@ -4,10 +4,10 @@ use Rattle.list.specs.Layout.{list_fits}
 use Rattle.list.proofs.Stepping.{passing_more, passing_stop, passing_all}
 use Rattle.list.proofs.fits.fitting_lists.Goals as goal
 
-pub returns-in-default : goal.returns-in-default
-returns-in-default c =
+pub returns-in_default : goal.returns-in_default
+returns-in_default c =
     passing_stop list_fits c.args.k c.loop-t.t c.loop-t.at c.args.xs.now c.loop-t-test.true
-    (simp take_rest at c.in-default.ensures) c.loop-t.invariant.0
+    (simp take_rest at c.in_default.ensures) c.loop-t.invariant.0
 
 pub loop-t-preserved : goal.loop-t-preserved
 loop-t-preserved c =

@@ -4,18 +4,18 @@ use Rattle.list.proofs.Fitting.{fitted}
 use Rattle.list.proofs.Telling.{named_list, named_known, named_all}
 use Rattle.list.proofs.named.check_named.Goals as goal
 
-pub slice-bounds-named-lists-count : goal.slice-bounds-named-lists-count
-slice-bounds-named-lists-count c = omega (arith, (fitted c.args.lists.now c.requires).long)
+pub slice_bounds-named_lists-count : goal.slice_bounds-named_lists-count
+slice_bounds-named_lists-count c = omega (arith, (fitted c.args.lists.now c.requires).long)
 
-pub slice-bounds-named-lists-start : goal.slice-bounds-named-lists-start
-slice-bounds-named-lists-start c = omega (arith, (fitted c.args.lists.now c.requires).long)
+pub slice_bounds-named_lists-start : goal.slice_bounds-named_lists-start
+slice_bounds-named_lists-start c = omega (arith, (fitted c.args.lists.now c.requires).long)
 
-pub named-lists-named-requires : goal.named-lists-named-requires
-named-lists-named-requires c = rw take_rest (fitted c.args.lists.now c.requires).passed
+pub named_lists-named-requires : goal.named_lists-named-requires
+named_lists-named-requires c = rw take_rest (fitted c.args.lists.now c.requires).passed
 
-pub returns-then-named-lists : goal.returns-then-named-lists
-returns-then-named-lists c = record {
-  refusal = sym (named_list c.args.lists.now c.args.count c.named-lists-named.result (simp take_rest at c.named-lists-named.ensures) (λ e. omega arith));
+pub returns-then-named_lists : goal.returns-then-named_lists
+returns-then-named_lists c = record {
+  refusal = sym (named_list c.args.lists.now c.args.count c.named_lists-named.result (simp take_rest at c.named_lists-named.ensures) (λ e. omega arith));
   value = tt;
 }
 
@@ -24,12 +24,12 @@ bounds-lists-1 c = omega (arith, (fitted c.args.lists.now c.requires).long)
 
 pub returns-then-lists-count : goal.returns-then-lists-count
 returns-then-lists-count c = record {
-  refusal = sym (named_known c.args.lists.now c.args.count c.named-lists-named.result (simp take_rest at c.named-lists-named.ensures) (omega arith) (omega arith));
+  refusal = sym (named_known c.args.lists.now c.args.count c.named_lists-named.result (simp take_rest at c.named_lists-named.ensures) (omega arith) (omega arith));
   value = tt;
 }
 
 pub returns : goal.returns
 returns c = record {
-  refusal = sym (named_all c.args.lists.now c.args.count c.named-lists-named.result (simp take_rest at c.named-lists-named.ensures) (omega arith) (omega arith));
+  refusal = sym (named_all c.args.lists.now c.args.count c.named_lists-named.result (simp take_rest at c.named_lists-named.ensures) (omega arith) (omega arith));
   value = omega arith;
 }

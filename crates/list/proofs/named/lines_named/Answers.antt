@@ -4,8 +4,8 @@ use Rattle.list.specs.Layout.{line_size}
 use Rattle.list.proofs.Stepping.{line_within, lines_named_step, lines_named_none}
 use Rattle.list.proofs.named.lines_named.Goals as goal
 
-pub offset-bounds-xs-i : goal.offset-bounds-xs-i
-offset-bounds-xs-i c = omega (arith, line_within c.loop-i.i c.args.n (line_size c.args.w) c.loop-i-test.true)
+pub offset_bounds-xs-i : goal.offset_bounds-xs-i
+offset_bounds-xs-i c = omega (arith, line_within c.loop-i.i c.args.n (line_size c.args.w) c.loop-i-test.true)
 
 pub bounds-xs-i : goal.bounds-xs-i
 bounds-xs-i c = omega (arith, line_within c.loop-i.i c.args.n (line_size c.args.w) c.loop-i-test.true)

@@ -5,16 +5,16 @@ use Rattle.list.proofs.Stepping.{passing_more, passing_stop, passing_all}
 use Rattle.list.proofs.Fitting.{fits_at, passed_next}
 use Rattle.list.proofs.named.named_lists.Goals as goal
 
-pub named-size-requires : goal.named-size-requires
-named-size-requires c = rw take_rest (fits_at c.args.k c.loop-t.t (drop c.loop-t.at c.args.xs.now) c.loop-t-test.true c.loop-t.invariant.1)
+pub named_size-requires : goal.named_size-requires
+named_size-requires c = rw take_rest (fits_at c.args.k c.loop-t.t (drop c.loop-t.at c.args.xs.now) c.loop-t-test.true c.loop-t.invariant.1)
 
-pub returns-in-default : goal.returns-in-default
-returns-in-default c =
+pub returns-in_default : goal.returns-in_default
+returns-in_default c =
     passing_stop (list_named c.args.count) c.args.k c.loop-t.t c.loop-t.at c.args.xs.now c.loop-t-test.true
-    (simp take_rest at c.in-default.ensures) c.loop-t.invariant.0
+    (simp take_rest at c.in_default.ensures) c.loop-t.invariant.0
 
-pub overflow-add-at : goal.overflow-add-at
-overflow-add-at c =
+pub overflow_add-at : goal.overflow_add-at
+overflow_add-at c =
     let e = simp take_rest at c.in-Some.ensures in
     let f = fits_at c.args.k c.loop-t.t (drop c.loop-t.at c.args.xs.now) c.loop-t-test.true c.loop-t.invariant.1 in
     omega (arith, e.1, f.whole, length-drop c.loop-t.at c.args.xs.now)

@@ -3,9 +3,9 @@ use Rattle.std.proofs.lemmas.List.{take_rest}
 use Rattle.list.specs.Layout.{list_named}
 use Rattle.list.proofs.named.named_size.Goals as goal
 
-pub returns-then-not-lines-named : goal.returns-then-not-lines-named
+pub returns-then-not-lines_named : goal.returns-then-not-lines_named
 unfolding list_named
-returns-then-not-lines-named c = let p = simp take_rest at c.lines_named.ensures in cc
+returns-then-not-lines_named c = let p = simp take_rest at c.lines_named.ensures in cc
 
 pub returns : goal.returns
 unfolding list_named

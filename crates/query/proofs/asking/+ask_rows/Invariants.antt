@@ -1,4 +1,4 @@
 use Rattle.query.proofs.asking.+ask_rows.Given as goal
 
-abbrev pub decreases-ask-rows : goal.decreases-ask-rows
-decreases-ask-rows l = l.left
+abbrev pub decreases-ask_rows : goal.decreases-ask_rows
+decreases-ask_rows l = l.left

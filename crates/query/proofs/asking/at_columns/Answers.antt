@@ -8,7 +8,7 @@ pub loop-a-preserved : goal.loop-a-preserved
 loop-a-preserved c =
     let e = column_first _ _ _ c.args.row.now (drop_more c.args.columns.now c.loop-a.a-index 0 (omega arith)) in
     let k = c.column.ensures in
-    let a = c.in-ok-push.ensures.items in
+    let a = c.in_ok-push.ensures.items in
     added_one (vec_items c.loop-a.out) (vec_items c.push.new.self) _ _ _ _ c.loop-a.invariant e (cc)
 
 pub returns : goal.returns

@@ -4,15 +4,15 @@ use Rattle.query.proofs.Added.{added_one, added_end}
 use Rattle.query.proofs.Firsts.{less_new, less_old, less_none}
 use Rattle.query.proofs.Left.{rows_more, rows_end}
 use Rattle.query.proofs.asking.less.Goals as goal
-use Rattle.query.proofs.asking.less.Goals.{then-not-stands+in-ok-add-row, else-not-stands}
+use Rattle.query.proofs.asking.less.Goals.{then-not-stands+in_ok-add_row, else-not-stands}
 
 pub loop-row-preserved : goal.loop-row-preserved
 loop-row-preserved c =
-    let m = rows_more c.args.rows.now c.loop-row.row-index c.row-item.result c.as-slice-numbers.result.now (omega arith) c.row-item.is c.as-slice-numbers.ensures.value in
+    let m = rows_more c.args.rows.now c.loop-row.row-index c.row-item.result c.as_slice-numbers.result.now (omega arith) c.row-item.is c.as_slice-numbers.ensures.value in
     elim c.if-not-stands.branch [
-      | then-not-stands+in-ok-add-row w ↦
+      | then-not-stands+in_ok-add_row w ↦
           let e = less_new _ _ _ m (rows_in c.args.others.now) w.if-not-stands.ensures in
-          rw w.out-is (added_one _ _ _ _ _ _ c.loop-row.invariant e w.in-ok-add-row.ensures)
+          rw w.out-is (added_one _ _ _ _ _ _ c.loop-row.invariant e w.in_ok-add_row.ensures)
       | else-not-stands w ↦
           let e = less_old _ _ _ m (rows_in c.args.others.now) w.if-not-stands.ensures in
           cc

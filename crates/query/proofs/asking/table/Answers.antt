@@ -6,7 +6,7 @@ use Rattle.query.proofs.asking.table.Goals as goal
 
 pub returns-then-t-tables : goal.returns-then-t-tables
 returns-then-t-tables c =
-    let e = table_at c.args.tables.now c.args.t c.index-tables-t.result c.as-slice.result.now (omega arith) c.index-tables-t.is c.as-slice.ensures.value in
+    let e = table_at c.args.tables.now c.args.t c.index-tables-t.result c.as_slice.result.now (omega arith) c.index-tables-t.is c.as_slice.ensures.value in
     made_as c.copied.result c.copied.ensures (e)
 
 pub returns-else-t-tables : goal.returns-else-t-tables

@@ -9,11 +9,11 @@ use Rattle.query.proofs.reading.+read.Goals as goal
 pub returns-then-left-eq0 : goal.returns-then-left-eq0
 returns-then-left-eq0 t c = reads_short _ _ _ _ c.then-left-eq0.either
 
-pub returns-in-default : goal.returns-in-default
-returns-in-default t c = no_token c.args.left (pairs_of c.args.shapes) c.args.at c.args.signs.now (omega arith) (omega arith) c.in-default.ensures
+pub returns-in_default : goal.returns-in_default
+returns-in_default t c = no_token c.args.left (pairs_of c.args.shapes) c.args.at c.args.signs.now (omega arith) (omega arith) c.in_default.ensures
 
-pub returns-then-not-put-list : goal.returns-then-not-put-list
-returns-then-not-put-list t c =
+pub returns-then-not-put_list : goal.returns-then-not-put_list
+returns-then-not-put_list t c =
     no_list
     c.args.left
     (pairs_of c.args.shapes)
@@ -23,12 +23,12 @@ returns-then-not-put-list t c =
     (omega arith)
     c.in-Listed.t
     (rw c.in-Listed.is at c.in-Some.ensures)
-    (omega (arith, pairs_length c.args.shapes, ltb-false c.in-Listed.t c.args.shapes.count (sym c.if-not-put-list.ensures.fits)))
+    (omega (arith, pairs_length c.args.shapes, ltb-false c.in-Listed.t c.args.shapes.count (sym c.if-not-put_list.ensures.fits)))
 
-pub returns-else-not-put-list : goal.returns-else-not-put-list
-returns-else-not-put-list t c =
-    let l : c.in-Listed.t < c.args.shapes.count = ltb-true c.in-Listed.t c.args.shapes.count (sym c.if-not-put-list.ensures.fits) in
-    rw (take_rest, c.if-not-put-list.ensures.put)
+pub returns-else-not-put_list : goal.returns-else-not-put_list
+returns-else-not-put_list t c =
+    let l : c.in-Listed.t < c.args.shapes.count = ltb-true c.in-Listed.t c.args.shapes.count (sym c.if-not-put_list.ensures.fits) in
+    rw (take_rest, c.if-not-put_list.ensures.put)
     (one_list
     c.args.left
     (pairs_of c.args.shapes)
@@ -50,22 +50,22 @@ returns-in-Err t c =
     single_bad c.args.left (pairs_of c.args.shapes) c.args.at c.args.signs.now (omega arith) (omega arith) c.in-Single.one
     (rw c.in-Single.is at c.in-Some.ensures) c.in-Err.off (rw take_rest at c.in-Err.ensures)
 
-pub put-one-requires : goal.put-one-requires
-put-one-requires t c =
+pub put_one-requires : goal.put_one-requires
+put_one-requires t c =
     let r = single_room (c.args.left - 1) (pairs_of c.args.shapes) (pairs_small c.args.shapes c.requires.shapes) c.args.at c.args.signs.now (omega arith) (omega arith)
     c.args.parts.now c.read.new.parts c.in-Ok.p.next c.in-Ok.p.rest.now (omega arith) (rw take_rest at c.in-Ok.ensures) in
     record { within = omega (arith, r.1, r.2, c.in-Ok.ensures.long); lines = r.0.lines; cost = r.0.cost }
 
-pub returns-then-not-put-one : goal.returns-then-not-put-one
-returns-then-not-put-one t c =
+pub returns-then-not-put_one : goal.returns-then-not-put_one
+returns-then-not-put_one t c =
     single_off c.args.left (pairs_of c.args.shapes) c.args.at c.args.signs.now (omega arith) (omega arith) c.args.parts.now c.read.new.parts c.in-Ok.p.next c.in-Ok.p.rest.now (omega arith)
-    (rw take_rest at c.in-Ok.ensures) c.in-Single.one (rw c.in-Single.is at c.in-Some.ensures) c.if-not-put-one.ensures.fits
+    (rw take_rest at c.in-Ok.ensures) c.in-Single.one (rw c.in-Single.is at c.in-Some.ensures) c.if-not-put_one.ensures.fits
 
-pub returns-else-not-put-one : goal.returns-else-not-put-one
-returns-else-not-put-one t c =
-    rw c.if-not-put-one.ensures.put
+pub returns-else-not-put_one : goal.returns-else-not-put_one
+returns-else-not-put_one t c =
+    rw c.if-not-put_one.ensures.put
     (single c.args.left (pairs_of c.args.shapes) c.args.at c.args.signs.now (omega arith) (omega arith) c.args.parts.now c.read.new.parts c.in-Ok.p.next c.in-Ok.p.rest.now (omega arith)
-    (rw take_rest at c.in-Ok.ensures) c.in-Single.one (rw c.in-Single.is at c.in-Some.ensures) c.if-not-put-one.ensures.fits)
+    (rw take_rest at c.in-Ok.ensures) c.in-Single.one (rw c.in-Single.is at c.in-Some.ensures) c.if-not-put_one.ensures.fits)
 
 pub returns-in-Err-read : goal.returns-in-Err-read
 returns-in-Err-read t c =
@@ -89,8 +89,8 @@ returns-in-Err-read-2 t c =
     double_second_bad c.args.left (pairs_of c.args.shapes) c.args.at c.args.signs.now (omega arith) (omega arith) c.args.parts.now c.read-in-Double.new.parts c.in-Ok-read.p.next c.in-Ok-read.p.rest.now (omega arith)
     (rw take_rest at c.in-Ok-read.ensures) c.in-Double.pair (rw c.in-Double.is at c.in-Some.ensures) c.in-Err-read-2.off c.in-Err-read-2.ensures
 
-pub put-pair-requires : goal.put-pair-requires
-put-pair-requires t c =
+pub put_pair-requires : goal.put_pair-requires
+put_pair-requires t c =
     let r = double_room (c.args.left - 1) (pairs_of c.args.shapes) (pairs_small c.args.shapes c.requires.shapes) c.args.at c.args.signs.now (omega arith) (omega arith)
     c.args.parts.now c.read-in-Double.new.parts c.in-Ok-read.p.next c.in-Ok-read.p.rest.now (omega arith) (rw take_rest at c.in-Ok-read.ensures)
     c.read-in-Double-2.new.parts c.in-Ok-read-2.q.next c.in-Ok-read-2.q.rest.now c.in-Ok-read-2.ensures in
@@ -101,15 +101,15 @@ put-pair-requires t c =
       cost = (r.0.cost, r.1.cost);
     }
 
-pub returns-then-not-put-pair : goal.returns-then-not-put-pair
-returns-then-not-put-pair t c =
+pub returns-then-not-put_pair : goal.returns-then-not-put_pair
+returns-then-not-put_pair t c =
     double_off c.args.left (pairs_of c.args.shapes) c.args.at c.args.signs.now (omega arith) (omega arith) c.args.parts.now c.read-in-Double.new.parts c.in-Ok-read.p.next c.in-Ok-read.p.rest.now (omega arith)
     (rw take_rest at c.in-Ok-read.ensures) c.read-in-Double-2.new.parts c.in-Ok-read-2.q.next c.in-Ok-read-2.q.rest.now c.in-Ok-read-2.ensures
-    c.in-Double.pair (rw c.in-Double.is at c.in-Some.ensures) c.if-not-put-pair.ensures.fits
+    c.in-Double.pair (rw c.in-Double.is at c.in-Some.ensures) c.if-not-put_pair.ensures.fits
 
-pub returns-else-not-put-pair : goal.returns-else-not-put-pair
-returns-else-not-put-pair t c =
-    rw c.if-not-put-pair.ensures.put
+pub returns-else-not-put_pair : goal.returns-else-not-put_pair
+returns-else-not-put_pair t c =
+    rw c.if-not-put_pair.ensures.put
     (double c.args.left (pairs_of c.args.shapes) c.args.at c.args.signs.now (omega arith) (omega arith) c.args.parts.now c.read-in-Double.new.parts c.in-Ok-read.p.next c.in-Ok-read.p.rest.now (omega arith)
     (rw take_rest at c.in-Ok-read.ensures) c.read-in-Double-2.new.parts c.in-Ok-read-2.q.next c.in-Ok-read-2.q.rest.now c.in-Ok-read-2.ensures
-    c.in-Double.pair (rw c.in-Double.is at c.in-Some.ensures) c.if-not-put-pair.ensures.fits)
+    c.in-Double.pair (rw c.in-Double.is at c.in-Some.ensures) c.if-not-put_pair.ensures.fits)

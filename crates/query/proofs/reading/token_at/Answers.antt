@@ -29,5 +29,5 @@ returns-in-7 c = union_sign c.args.signs.now (omega arith)
 pub returns-in-8 : goal.returns-in-8
 returns-in-8 c = without_sign c.args.signs.now (omega arith)
 
-pub returns-in-default : goal.returns-in-default
-returns-in-default c = other_sign c.args.signs.now (omega arith)
+pub returns-in_default : goal.returns-in_default
+returns-in_default c = other_sign c.args.signs.now (omega arith)

@@ -7,8 +7,8 @@ use Rattle.decide.proofs.noting.Notes.count_gaps.Goals.{then-self-k, else-self-k
 pub loop-k-init : goal.loop-k-init
 loop-k-init c = sym (counted_zero (gap_noted c.args.self.now))
 
-pub overflow-add-many : goal.overflow-add-many
-overflow-add-many c = omega (arith, counted_few c.loop-k.k (gap_noted c.args.self.now))
+pub overflow_add-many : goal.overflow_add-many
+overflow_add-many c = omega (arith, counted_few c.loop-k.k (gap_noted c.args.self.now))
 
 pub loop-k-preserved : goal.loop-k-preserved
 loop-k-preserved c =

@@ -10,5 +10,5 @@ loop-k-preserved c = elim c.match-with.branch [
   | goal.in-Some w ↦
       put_more (filling_of c.args.gaps.now c.args.self) (numbers_of c.loop-k.filling) (numbers_of c.match-with.filling) c.loop-k.k c.number-number.result
       (λ k. ap (λ (f : Filling). numbers_of f k) w.filling-is ∙ w.in-Some.ensures.numbers k) c.number-number.ensures c.loop-k.invariant
-  | goal.in-default w ↦ absurd (omega (arith, w.in-default.ensures.gap))
+  | goal.in_default w ↦ absurd (omega (arith, w.in_default.ensures.gap))
 ]

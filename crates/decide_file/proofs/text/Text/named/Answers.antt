@@ -9,6 +9,6 @@ pub returns : goal.returns
 returns c =
     let split = strip_prefix_is Decides-eqb c.args.self.now.rest.now c.name.result.now (Some c.in-Some.rest) c.in-Some.ensures.cases in
     let behind = scan_plain c.name.result.now c.in-Some.rest.now c.name.ensures in
-    let read = c.in-ok-number.ensures in
-    let ended = c.in-ok-end-line.ensures.numbers in
+    let read = c.in_ok-number.ensures in
+    let ended = c.in_ok-end_line.ensures.numbers in
     cc

@@ -4,8 +4,8 @@ use Rattle.decide_file.proofs.text.Text.node.Goals as goal
 
 pub loop-preserved : goal.loop-preserved
 loop-preserved c =
-    let pushed = c.in-ok-push.ensures.items in
-    let read = c.in-ok-number.ensures in (
-      read_on (vec_items c.loop.nodes) (vec_items c.push.new.self) c.loop.self.rest.now c.number.new.self.rest.now c.in-ok-number.number pushed read ∙ c.loop.invariant.0,
-      omega (arith, one_longer (vec_items c.loop.nodes) (vec_items c.push.new.self) c.in-ok-number.number pushed, c.loop.invariant.1),
+    let pushed = c.in_ok-push.ensures.items in
+    let read = c.in_ok-number.ensures in (
+      read_on (vec_items c.loop.nodes) (vec_items c.push.new.self) c.loop.self.rest.now c.number.new.self.rest.now c.in_ok-number.number pushed read ∙ c.loop.invariant.0,
+      omega (arith, one_longer (vec_items c.loop.nodes) (vec_items c.push.new.self) c.in_ok-number.number pushed, c.loop.invariant.1),
     )

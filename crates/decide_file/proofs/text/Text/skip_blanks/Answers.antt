@@ -3,14 +3,14 @@ use Rattle.decide_file.specs.Numbers.{numbers}
 use Rattle.decide_file.proofs.Scanning.{scan_skip, rest_numbers, rest_long}
 use Rattle.decide_file.proofs.text.Text.skip_blanks.Goals as goal
 
-pub returns-then-not-is-blank : goal.returns-then-not-is-blank
-returns-then-not-is-blank c =
+pub returns-then-not-is_blank : goal.returns-then-not-is_blank
+returns-then-not-is_blank c =
     let bs = c.args.self.now.rest.now in
     record { numbers = rest_numbers bs c.loop-i.i ∙ c.loop-i.invariant; long = omega (arith, rest_long bs c.loop-i.i) }
 
 pub loop-i-preserved : goal.loop-i-preserved
 loop-i-preserved c =
-    sym (scan_skip c.args.self.now.rest.now c.loop-i.i c.loop-i-test.true (c.is-blank.ensures c.if-not-is-blank.false)) ∙ c.loop-i.invariant
+    sym (scan_skip c.args.self.now.rest.now c.loop-i.i c.loop-i-test.true (c.is_blank.ensures c.if-not-is_blank.false)) ∙ c.loop-i.invariant
 
 pub returns : goal.returns
 returns c =

@@ -9,8 +9,8 @@ read-requires c =
     let l : length c.front.result.now ≤ 96 = rw c.front.ensures (simp length-take (omega arith)) in
     record { long = refl; few = omega (arith, l); shapes = c.requires }
 
-pub overflow-mul-next : goal.overflow-mul-next
-overflow-mul-next c = omega (arith, ends_within 16 (pairs_of c.args.shapes) 0 _ _ c.read.new.parts c.in-Ok.p.next _ (omega arith) c.in-Ok.ensures)
+pub overflow_mul-next : goal.overflow_mul-next
+overflow_mul-next c = omega (arith, ends_within 16 (pairs_of c.args.shapes) 0 _ _ c.read.new.parts c.in-Ok.p.next _ (omega arith) c.in-Ok.ensures)
 
 pub returns : goal.returns
 returns c =
