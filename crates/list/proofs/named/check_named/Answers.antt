@@ -13,8 +13,8 @@ slice_bounds-named_lists-start c = omega (arith, (fitted c.args.lists.now c.requ
 pub named_lists-named-requires : goal.named_lists-named-requires
 named_lists-named-requires c = rw take_rest (fitted c.args.lists.now c.requires).passed
 
-pub returns-then-named_lists : goal.returns-then-named_lists
-returns-then-named_lists c = record {
+pub returns-then-named-lists : goal.returns-then-named-lists
+returns-then-named-lists c = record {
   refusal = sym (named_list c.args.lists.now c.args.count c.named_lists-named.result (simp take_rest at c.named_lists-named.ensures) (λ e. omega arith));
   value = tt;
 }
