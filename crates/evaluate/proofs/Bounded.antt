@@ -1,6 +1,6 @@
 -- Numbers below a bound are enough, where the bound leaves room for the gaps: draw from the named numbers and from fresh ones
 -- below it, and give 0 to the gaps that are not looked at.
-use Rattle.std.proofs.Common.{◌≡◌, ℕ, zero, suc, ◌+◌, ◌^◌, ◌<◌, ◌≤◌, Bool, true, false, cond as if, eqb, ◌⊎◌, List, [], ◌∷◌, ◌++◌, length, get_or, sym, refl, ap, ◌∙◌, inl, inr, ⊎_elim, arith}
+use Rattle.std.proofs.Common.{◌≡◌, ℕ, suc, ◌+◌, ◌^◌, ◌<◌, ◌≤◌, true, cond as if, eqb, ◌⊎◌, List, [], ◌∷◌, ◌++◌, length, get_or, sym, ◌∙◌, inl, inr, ⊎_elim, arith}
 use Rattle.std.proofs.lemmas.Bool.{eqb-true, or_cases, cond_both}
 use Rattle.condition.specs.Cond.{Cond, numbers, gaps, has, Within}
 use Rattle.condition.proofs.Lists.{has_none, has_cons, has_app}

@@ -1,8 +1,8 @@
 -- A condition is under any filling what it is under one that draws from the numbers it names and as many fresh ones as there
 -- are gaps: each number that a gap has and that is not named is moved to the fresh number of that gap.
-use Rattle.std.proofs.Common.{◌≡◌, ℕ, zero, suc, ◌<◌, Bool, true, false, cond as if, eqb, ◌⊎◌, List, [], ◌∷◌, ◌++◌, length, get_or, sym, refl, ap, ◌∙◌, inl, inr, ⊎_elim, arith}
+use Rattle.std.proofs.Common.{◌≡◌, ℕ, suc, ◌<◌, Bool, true, false, cond as if, eqb, ◌⊎◌, List, [], ◌∷◌, ◌++◌, length, get_or, sym, refl, ap, ◌∙◌, inl, inr, ⊎_elim, arith}
 use Rattle.std.proofs.lemmas.Bool.{both_ways, eqb-true, eqb-false, or_cases}
-use Rattle.condition.specs.Cond.{Cond, numbers, gaps, has, Within}
+use Rattle.condition.specs.Cond.{numbers, gaps, has, Within}
 use Rattle.condition.proofs.Lists.{has_none, has_cons, has_left, has_right, has_apart, has_at, within_self}
 use Rattle.evaluate.specs.Filling.{Filling, holds, Drawn, Fresh}
 use Rattle.evaluate.specs.Enough.{FewNumbers, FewOver, FewDecide}

@@ -1,10 +1,9 @@
 -- Fresh numbers are there, below the count of those to avoid and of those wanted: of the numbers below that count, one is struck
 -- for each number to avoid.
-use Rattle.std.proofs.Common.{◌≡◌, ℕ, zero, suc, ◌+◌, ◌^◌, ◌<◌, ◌≤◌, Bool, true, false, cond as if, ◌||◌, eqb, ◌⊎◌, List, [], ◌∷◌, ◌++◌, length, get_or, sym, refl, ap, ◌∙◌, inl, inr, ⊎_elim, arith}
+use Rattle.std.proofs.Common.{◌≡◌, ℕ, zero, suc, ◌+◌, ◌<◌, Bool, true, false, cond as if, eqb, ◌⊎◌, List, [], ◌∷◌, length, get_or, sym, refl, ap, ◌∙◌, inl, inr, ⊎_elim, arith}
 use Rattle.std.proofs.lemmas.Bool.{both_ways, eqb-true, or_cases, or_parts, cases_Bool}
 use Rattle.condition.specs.Cond.{has}
 use Rattle.condition.proofs.Lists.{has_none, has_cons, has_at, has_apart}
-use Rattle.evaluate.specs.Filling.{Fresh}
 use Rattle.evaluate.specs.Enough.{FreshSmall}
 
 -- the numbers below n, the highest first

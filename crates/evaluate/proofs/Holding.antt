@@ -1,6 +1,6 @@
 -- Laws of `holds`. Only this file goes through the kinds of conditions.
-use Rattle.std.proofs.Common.{◌≡◌, ℕ, Bool, true, false, not, ◌&&◌, ◌||◌, eqb, ◌⊎◌, List, [], ◌∷◌, ◌++◌, sym, refl, ap, ◌∙◌, inl, inr}
-use Rattle.condition.specs.Cond.{Cell, known, gap, Cond, always, never, equal, not_so, both, either, cells_of, gaps, each_cell, has}
+use Rattle.std.proofs.Common.{◌≡◌, ℕ, true, false, not, ◌&&◌, ◌||◌, eqb, List, sym, refl, ap, inl, inr}
+use Rattle.condition.specs.Cond.{Cell, known, gap, Cond, always, never, equal, not_so, both, either, cells_of, each_cell}
 use Rattle.condition.proofs.Named.{OneOf, one_left, one_right, gap_named}
 use Rattle.evaluate.specs.Filling.{Filling, fill_cell, holds}
 use Rattle.evaluate.specs.Enough.{OwnGaps}

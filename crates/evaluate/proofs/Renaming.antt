@@ -1,6 +1,6 @@
 -- Other numbers for the same gaps: where φ leaves the numbers that a condition names as they are, and makes no two of the
 -- numbers that it looks at equal, the condition holds as before.
-use Rattle.std.proofs.Common.{◌≡◌, ℕ, Bool, true, false, eqb, List, sym, refl, ap, ◌∙◌}
+use Rattle.std.proofs.Common.{◌≡◌, ℕ, Bool, true, false, eqb, sym, refl, ap, ◌∙◌}
 use Rattle.std.proofs.lemmas.Bool.{eqb-true, eqb-false, eq-eqb, ne_eqb}
 use Rattle.condition.specs.Cond.{Cell, known, gap, Cond, cells_of, numbers, gaps, has}
 use Rattle.condition.proofs.Named.{OneOf, number_named, gap_named}

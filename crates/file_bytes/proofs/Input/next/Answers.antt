@@ -1,4 +1,3 @@
-use Rattle.std.proofs.Common.{refl}
 use Rattle.file_bytes.proofs.Reading.{read_one}
 use Rattle.file_bytes.proofs.Input.next.Goals as goal
 
