@@ -1,5 +1,5 @@
 -- Rows added at the end of others: one step of a loop, and its end.
-use Rattle.std.proofs.Common.{◌≡◌, ℕ, List, [], ◌∷◌, ◌++◌, map, vec_items, Vec, sym, refl, ap, ◌∙◌}
+use Rattle.std.proofs.Common.{◌≡◌, ℕ, List, [], ◌∷◌, ◌++◌, map, vec_items, Vec, ap}
 use Rattle.std.proofs.lemmas.List.{append_assoc, append-nil, map_push}
 use Rattle.list.specs.Lists.{Row}
 use Rattle.list.specs.Shapes.{rows_of}

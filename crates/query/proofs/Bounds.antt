@@ -1,7 +1,7 @@
 -- Sixteen signs hold at most eight lists: the lines and the cost of a question stay far below 2^64.
-use Rattle.std.proofs.Common.{◌≡◌, ℕ, zero, suc, ◌+◌, ◌-◌, ◌*◌, ◌^◌, ◌<◌, ◌≤◌, Bool, true, false, cond as if, ◌&&◌, eqb, leb, ◌⊎◌, List, length, get_or, take, drop, None, sym, refl, ap, ◌∙◌, inl, inr, mul-le-mul, pow-suc, arith, length-drop, length-take, pow_mono, pow-add}
-use Rattle.std.proofs.lemmas.Bool.{leb-true, eqb-true, and_parts}
-use Rattle.list.specs.Layout.{shapes, lists_told}
+use Rattle.std.proofs.Common.{◌≡◌, ℕ, zero, suc, ◌+◌, ◌-◌, ◌*◌, ◌^◌, ◌<◌, ◌≤◌, Bool, true, false, cond as if, leb, List, length, get_or, take, drop, refl, ap, ◌∙◌, mul-le-mul, pow-suc, arith, length-drop, length-take, pow_mono, pow-add}
+use Rattle.std.proofs.lemmas.Bool.{leb-true, and_parts}
+use Rattle.list.specs.Layout.{shapes}
 use Rattle.list.proofs.Fitting.{shapes_small, lists_passed}
 use Rattle.query.specs.Reading.{FewLines, asked, sized, Sign, a_list, a_test, some_columns, a_join, a_union, a_without, no_sign, sign_in, Sized, of_list, of_test, of_columns, of_join, of_union, of_without, Read, read, bad, then, check, by_sign, reads}
 use Rattle.query.proofs.Placed.{Placed, reads_placed}

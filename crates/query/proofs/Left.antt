@@ -1,5 +1,5 @@
 -- The rows that a loop has left, one step on and at the end; the parts, columns and lists that are there.
-use Rattle.std.proofs.Common.{◌≡◌, ℕ, ◌+◌, ◌-◌, ◌<◌, ◌≤◌, min, ◌⊎◌, List, [], ◌∷◌, length, get_or, take, drop, vec_items, Vec, sym, ap, ◌∙◌, inl, inr, arith}
+use Rattle.std.proofs.Common.{◌≡◌, ℕ, ◌+◌, ◌-◌, ◌<◌, ◌≤◌, min, ◌⊎◌, List, [], ◌∷◌, length, get_or, take, drop, vec_items, Vec, ap, inl, inr, arith}
 use Rattle.std.proofs.lemmas.List.{drop_more, drop_all, take_all, get_or-map, get_or_past, length-map}
 use Rattle.std.proofs.lemmas.Bool.{cases_lt}
 use Rattle.list.specs.Lists.{Row}

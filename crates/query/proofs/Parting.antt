@@ -1,8 +1,8 @@
 -- Reading a question into parts: one law for each kind of sign.
-use Rattle.std.proofs.Common.{◌≡◌, ℕ, zero, suc, ◌+◌, ◌-◌, ◌*◌, ◌<◌, ◌≤◌, Bool, true, false, cond as if, ◌&&◌, eqb, ltb, leb, ◌⊎◌, List, [], length, get_or, take, drop, set, sym, refl, ap, ◌∙◌, inl, inr, arith, length-drop}
+use Rattle.std.proofs.Common.{◌≡◌, ℕ, zero, suc, ◌+◌, ◌-◌, ◌*◌, ◌<◌, ◌≤◌, true, false, ◌&&◌, leb, ◌⊎◌, List, length, get_or, take, drop, set, sym, refl, ap, ◌∙◌, inl, inr, arith, length-drop}
 use Rattle.std.proofs.lemmas.List.{drop-drop, get_or-drop, get_or-set_same, get_or-set_other, drop-set-lt, length-set}
 use Rattle.std.proofs.lemmas.Bool.{le-leb, lt-leb, lt-ltb, le-ltb, eq-eqb, ne_eqb}
-use Rattle.query.specs.Reading.{Sized, of_list, of_test, of_columns, of_join, of_union, of_without, test_fits, all_below, a_list, a_test, some_columns, a_join, a_union, a_without, no_sign, Read, read, bad, then, check, reads, by_sign, sign_in}
+use Rattle.query.specs.Reading.{Sized, of_list, of_test, of_columns, of_join, of_union, of_without, test_fits, all_below, a_list, a_test, some_columns, a_join, a_union, a_without, no_sign, read, bad, reads, by_sign, sign_in}
 use Rattle.query.specs.Reading.{Sign as ReadingSign}
 use Rattle.query.specs.Ask.{Query}
 use Rattle.query.specs.Shapes.{no_part, part_at, test_of, query_by, query_of}

@@ -1,6 +1,6 @@
 -- What reading a question passes over: six numbers a sign.
-use Rattle.std.proofs.Common.{◌≡◌, ℕ, zero, suc, ◌+◌, ◌*◌, ◌≤◌, Bool, true, false, leb, ◌⊎◌, List, length, get_or, drop, sym, refl, ap, ◌∙◌, inl, inr, arith, length-drop}
-use Rattle.std.proofs.lemmas.Bool.{cases_Bool, leb-true}
+use Rattle.std.proofs.Common.{◌≡◌, ℕ, zero, suc, ◌+◌, ◌*◌, ◌≤◌, Bool, true, false, leb, List, length, get_or, drop, refl, arith, length-drop}
+use Rattle.std.proofs.lemmas.Bool.{leb-true}
 use Rattle.query.specs.Reading.{Sign, a_list, a_test, some_columns, a_join, a_union, a_without, no_sign, sign_in, Sized, Read, read, bad, then, check, by_sign, reads}
 
 -- the numbers left and six for each sign passed are as many as there were

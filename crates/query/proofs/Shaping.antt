@@ -1,8 +1,8 @@
 -- The shapes of lists, as questions see them.
-use Rattle.std.proofs.Common.{◌≡◌, ℕ, zero, suc, ◌<◌, List, [], ◌∷◌, length, get_or, drop, sym, refl, ap, ◌∙◌}
+use Rattle.std.proofs.Common.{◌≡◌, ℕ, zero, suc, List, length, get_or, drop, sym, refl, ap, ◌∙◌}
 use Rattle.std.proofs.lemmas.List.FromFn.{fill_by_all}
 use Rattle.list.specs.Layout.{shapes_in, shapes, list_size}
-use Rattle.list.specs.Shapes.{shape_of, Shaped, AllShaped}
+use Rattle.list.specs.Shapes.{shape_of, AllShaped}
 use Rattle.list.specs.declared.shape.Shapes.{Shapes}
 use Rattle.query.specs.Shapes.{pairs_of, Few}
 

@@ -1,15 +1,15 @@
 -- One step of reading, in the words of the code: a sign, what was read behind it, and the part that is written for it.
-use Rattle.std.proofs.Common.{◌≡◌, ℕ, zero, suc, ◌+◌, ◌-◌, ◌*◌, ◌^◌, ◌<◌, ◌≤◌, Bool, true, false, ◌&&◌, eqb, leb, ◌⊎◌, List, map, length, get_or, take, drop, set, Some, None, sym, refl, ap, ◌∙◌, inl, inr, arith, length-drop}
+use Rattle.std.proofs.Common.{◌≡◌, ℕ, suc, ◌+◌, ◌-◌, ◌*◌, ◌^◌, ◌<◌, ◌≤◌, true, false, ◌&&◌, leb, ◌⊎◌, List, length, get_or, take, drop, set, sym, refl, ◌∙◌, inl, inr, arith, length-drop}
 use Rattle.std.proofs.lemmas.List.{get_or_past}
 use Rattle.std.proofs.lemmas.List.FromFn.{length-map-range_with_len, get_or-map-range_with_len}
-use Rattle.std.proofs.lemmas.Bool.{leb-true, leb-false, eqb-true, eqb-false, and_parts, and_left, and_right, le-leb, lt-leb, cases_lt}
+use Rattle.std.proofs.lemmas.Bool.{leb-true, leb-false, eqb-true, eqb-false, and_parts, and_right, lt-leb, cases_lt}
 use Rattle.list.specs.Shapes.{shape_of}
 use Rattle.list.specs.declared.shape.Shapes.{Shapes}
 use Rattle.query.specs.Reading as signs
 use Rattle.query.specs.Reading.{Sized, Read, read, bad, reads, sign_in, a_list, no_sign, all_below}
 use Rattle.query.specs.Shapes.{part_at, pairs_of, Few}
 use Rattle.query.specs.Parts.{Numbers, Reads}
-use Rattle.query.specs.Tokens.{OneIs, pair_of, one_fits, one_part, pair_fits, pair_part, Put}
+use Rattle.query.specs.Tokens.{OneIs, pair_of, one_fits, one_part, pair_fits, pair_part}
 use Rattle.query.specs.declared.Sign.TheVariants.{Rows}
 use Rattle.query.specs.declared.Part.{Part}
 use Rattle.query.specs.declared.reading.One.{One}
@@ -17,7 +17,7 @@ use Rattle.query.specs.declared.reading.One.TheVariants.{Test, Cut}
 use Rattle.query.specs.declared.reading.Pair.{Pair}
 use Rattle.query.specs.declared.reading.Pair.TheVariants.{Joined, United, Less}
 use Rattle.query.proofs.Bounds.{Small, Bounded, reads_bounded, pairs_bounded}
-use Rattle.query.proofs.Parting.{Wants, Pairs, list_bad, none_bad, list_part, test_part, test_bad, columns_part, columns_bad, first_bad, second_bad, sub_numbers, first_numbers, second_numbers, join_part, union_part, without_part, join_bad, union_bad, without_bad}
+use Rattle.query.proofs.Parting.{list_bad, none_bad, list_part, test_part, test_bad, columns_part, columns_bad, first_bad, second_bad, sub_numbers, first_numbers, second_numbers, join_part, union_part, without_part, join_bad, union_bad, without_bad}
 
 -- the shapes as pairs
 pub pairs_length : (ss : Shapes) → length (pairs_of ss) ≡ ss.count

@@ -1,9 +1,9 @@
 -- What is told of a question that was read: whether signs are left over, and whether it is too large.
-use Rattle.std.proofs.Common.{◌≡◌, ℕ, ◌-◌, ◌*◌, ◌<◌, ◌≤◌, leb, List, length, None, sym, refl, ap, ◌∙◌, arith}
+use Rattle.std.proofs.Common.{◌≡◌, ℕ, ◌-◌, ◌*◌, leb, List, length, None, sym, refl, ap, ◌∙◌, arith}
 use Rattle.std.proofs.lemmas.Bool.{eq-eqb, leb-true}
-use Rattle.condition.specs.Refusals.{first, unless}
+use Rattle.condition.specs.Refusals.{unless}
 use Rattle.condition.proofs.Refusing.{first_none, unless_none}
-use Rattle.query.specs.Reading.{Sized, Read, read, sized, question_told, size_told, sizes_told, reads}
+use Rattle.query.specs.Reading.{Sized, Read, sized, question_told, size_told, sizes_told, reads}
 use Rattle.query.specs.Parts.{Reads}
 use Rattle.query.specs.Shapes.{part_at}
 use Rattle.query.proofs.Parting.{first_part, query_sized}

@@ -1,5 +1,5 @@
 -- Each kind of sign by its numbers.
-use Rattle.std.proofs.Common.{◌≡◌, ℕ, zero, suc, ◌+◌, ◌-◌, ◌<◌, ◌≤◌, List, [], ◌∷◌, length, get_or, take, drop, sym, refl, ap, ◌∙◌, arith, length-drop}
+use Rattle.std.proofs.Common.{◌≡◌, ℕ, suc, ◌-◌, ◌≤◌, List, [], ◌∷◌, length, get_or, take, drop, refl, ap, ◌∙◌, arith, length-drop}
 use Rattle.std.proofs.lemmas.List.{get_or-drop, drop-drop, take-take}
 use Rattle.query.specs.Ask.{same, differ, is, is_not}
 use Rattle.query.specs.Reading.{Sign, a_list, a_test, some_columns, a_join, a_union, a_without, no_sign, sign_in}

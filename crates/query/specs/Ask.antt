@@ -4,7 +4,7 @@
 --   Query              a question
 --   passes t r         whether the row r passes the test t
 --   ask q ts           the rows that the question q gives on the lists of rows ts
-use Rattle.std.specs.Prelude.{ℕ, Bool, true, false, cond as if, not, List, [], ◌∷◌, ◌++◌, ◌==◌, slice_index, slice_index_or}
+use Rattle.std.specs.Prelude.{ℕ, Bool, cond as if, not, List, [], ◌∷◌, ◌++◌, ◌==◌, slice_index, slice_index_or}
 use Rattle.list.specs.Lists.{Row, stands}
 
 pub data Test : Type 0 where

@@ -6,7 +6,7 @@
 --   Reads ..             what reading leaves behind
 use Rattle.std.specs.Prelude.{◌≡◌, ℕ, zero, suc, ◌+◌, ◌-◌, ◌<◌, ◌≤◌, true, ◌⊎◌, List, length, take, drop, slice_index_or}
 use Rattle.query.specs.Ask.{table}
-use Rattle.query.specs.Reading.{Sized, of_list, of_test, of_columns, of_join, of_union, of_without, all_below, test_fits, Read, read, reads}
+use Rattle.query.specs.Reading.{Sized, of_list, of_test, of_columns, of_join, of_union, of_without, all_below, test_fits, read, reads}
 use Rattle.query.specs.Shapes.{test_of, part_at}
 use Rattle.query.specs.declared.Sign.{Sign}
 use Rattle.query.specs.declared.Sign.TheVariants.{Rows, Keep, Columns, Join, Union, Without}

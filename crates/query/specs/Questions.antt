@@ -3,7 +3,7 @@
 --   Parses ss r ps n     the parts ps hold the question of the reading r, of n signs
 --   Stands ss r ps n     and it is within the bounds of an answer
 use Rattle.std.specs.Prelude.{◌≡◌, ℕ, ◌≤◌, List, length}
-use Rattle.query.specs.Reading.{Sized, Read, sized}
+use Rattle.query.specs.Reading.{Read, sized}
 use Rattle.query.specs.Parts.{sized_of, Parted, Numbers}
 use Rattle.query.specs.Shapes.{part_at, query_of}
 use Rattle.query.specs.declared.Part.{Part}

@@ -4,11 +4,11 @@
 --   list_part, one_part, pair_part     the part that is written for a sign and the questions behind it
 --   one_fits, pair_fits                whether its columns and widths fit
 --   Put b at p before after            the part p was written at its place, or nothing was
-use Rattle.std.specs.Prelude.{◌≡◌, ℕ, ◌+◌, ◌-◌, ◌*◌, ◌<◌, ◌≤◌, Bool, true, false, ◌&&◌, List, length, take, Some, None, Option, nat_le, slice_set}
+use Rattle.std.specs.Prelude.{◌≡◌, ℕ, ◌+◌, ◌*◌, ◌≤◌, Bool, true, false, ◌&&◌, List, length, take, Some, None, Option, nat_le, slice_set}
 use Rattle.list.specs.declared.shape.Shape.{Shape}
 use Rattle.query.specs.Reading.{a_list, a_test, some_columns, a_join, a_union, a_without, no_sign, test_fits, all_below}
 use Rattle.query.specs.Reading as signs
-use Rattle.query.specs.Shapes.{test_of, part_at}
+use Rattle.query.specs.Shapes.{test_of}
 use Rattle.query.specs.declared.Sign.TheVariants.{Rows, Keep, Columns, Join, Union, Without}
 use Rattle.query.specs.declared.Part.{Part}
 use Rattle.query.specs.declared.reading.One.{One}

@@ -7,4 +7,4 @@ use Rattle.query.proofs.asking.same_row.Goals as goal
 
 pub returns : goal.returns
 unfolding same_row
-returns c = same_from_decides _ _ (slice_eq-Decides Decides-eqb _ _ _ c.eq.ensures) (compares_Decides same_row (search rules) _ _)
+returns c = same_from_decides _ _ (slice_eq-Decides Decides-eqb c.args.a.now c.args.b.now _ c.eq.ensures) (compares_Decides same_row (search rules) c.args.a.now c.args.b.now)

@@ -1,5 +1,4 @@
-use Rattle.std.proofs.Common.{◌≡◌, ◌<◌, true, take, sym, ap, arith}
-use Rattle.query.specs.Reading.{all_below}
+use Rattle.std.proofs.Common.{◌≡◌, sym, arith}
 use Rattle.query.proofs.Columns.{below_none, below_more, below_fails}
 use Rattle.query.proofs.reading.columns_fit.Goals as goal
 

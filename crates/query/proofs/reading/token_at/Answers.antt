@@ -1,4 +1,4 @@
-use Rattle.std.proofs.Common.{refl, arith, rules}
+use Rattle.std.proofs.Common.{refl, arith}
 use Rattle.query.proofs.Tokens.{list_sign, same_sign, differ_sign, is_sign, is_not_sign, columns_sign, join_sign, union_sign, without_sign, other_sign, four}
 use Rattle.query.proofs.reading.token_at.Goals as goal
 

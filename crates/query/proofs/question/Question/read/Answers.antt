@@ -1,4 +1,3 @@
-use Rattle.std.proofs.Common.{◌≡◌, sym}
 use Rattle.query.proofs.Shaping.{pairs_all}
 use Rattle.query.proofs.question.Question.read.Goals as goal
 
