@@ -1,10 +1,10 @@
 -- The worked example, by cases on the three gaps.
-use Rattle.std.proofs.Common.{◌≡◌, ℕ, Bool, true, false, cond as if, not, ◌&&◌, ◌||◌, eqb, ◌⊎◌, List, [], ◌∷◌, ◌++◌, get_or, sym, refl, ap, ◌∙◌, inl, inr, ⊎_elim, arith}
+use Rattle.std.proofs.Common.{◌≡◌, ℕ, Bool, true, false, cond as if, not, ◌&&◌, ◌||◌, eqb, ◌⊎◌, List, [], ◌∷◌, sym, refl, ap, ◌∙◌, inl, inr, ⊎_elim, arith}
 use Rattle.std.proofs.lemmas.Bool.Decides.{nat_tests}
 use Rattle.std.proofs.lemmas.Bool.{false≢true, both_ways, not-true, eqb-true, eqb-false, ne_eqb, and_parts, or_cases, or_parts}
 use Rattle.condition.specs.Cond.{Cond, known, gap, equal, both}
 use Rattle.condition.proofs.Lists.{eqb_self}
-use Rattle.list.proofs.Filling.{same_row_is, same_row_self}
+use Rattle.list.proofs.Filling.{same_row_is}
 use Rattle.evaluate.specs.Filling.{Filling, holds}
 use Rattle.list.specs.Lists.{Row, fill_cells, filled, all_filled, same_row, stands}
 use Rattle.query.specs.Ask.{Query, without, passes, kept, at_columns, cut_to, beside, joined, less, ask}

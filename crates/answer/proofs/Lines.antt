@@ -1,9 +1,9 @@
 -- Each line of an answer, by its place.
-use Rattle.std.proofs.Common.{◌≡◌, ℕ, zero, suc, ◌+◌, ◌-◌, ◌*◌, ◌/◌, ◌%◌, ◌<◌, ◌≤◌, cond as if, ltb, ◌⊎◌, List, [], ◌∷◌, ◌++◌, length, get_or, drop, sym, refl, ap, ◌∙◌, subst, inl, inr, add-zero, suc-mul, mul-zero, zero-add, zero-mul, arith}
+use Rattle.std.proofs.Common.{◌≡◌, ℕ, zero, suc, ◌+◌, ◌-◌, ◌*◌, ◌/◌, ◌%◌, ◌<◌, List, [], ◌∷◌, ◌++◌, length, get_or, drop, sym, refl, ap, ◌∙◌, inl, inr, add-zero, mul-zero, zero-add, zero-mul, arith}
 use Rattle.std.proofs.lemmas.List.{get_or-drop}
 use Rattle.std.proofs.lemmas.Bool.{cases_lt, lt-ltb, le-ltb}
 use Rattle.condition.specs.Cond.{Cell, known, Cond, always, both, not_so}
-use Rattle.condition.specs.Store.{cell_in, cond_at}
+use Rattle.condition.specs.Store.{cond_at}
 use Rattle.list.specs.Lists.{Line}
 use Rattle.list.specs.Layout.{line_size, cells_in, lines_in}
 use Rattle.list.proofs.Reading.{length_cells, length_lines, line_cell_at, line_of_part}

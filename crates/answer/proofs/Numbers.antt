@@ -1,15 +1,15 @@
 -- Both ways of writing the refusals of asking tell the same number.
-use Rattle.std.proofs.Common.{◌≡◌, ℕ, zero, suc, ◌+◌, ◌-◌, ◌*◌, ◌/◌, ◌%◌, ◌<◌, ◌≤◌, min, Bool, true, false, cond as if, ◌&&◌, eqb, ltb, leb, ◌⊎◌, List, [], ◌∷◌, length, get_or, take, drop, sym, refl, ap, ◌∙◌, inl, inr, ⊎_elim, arith, length-drop, length-take}
+use Rattle.std.proofs.Common.{◌≡◌, ℕ, zero, suc, ◌+◌, ◌*◌, ◌/◌, ◌%◌, ◌<◌, ◌≤◌, min, Bool, true, false, cond as if, ◌&&◌, eqb, ltb, leb, ◌⊎◌, List, [], ◌∷◌, length, get_or, take, drop, sym, refl, ap, ◌∙◌, inl, inr, ⊎_elim, arith, length-drop, length-take}
 use Rattle.std.proofs.lemmas.List.{take_all}
 use Rattle.std.proofs.lemmas.Bool.Decides.{nat_tests}
 use Rattle.std.proofs.lemmas.Bool.{false≢true, eqb-true, eqb-false, eq-eqb, leb-true, le-leb, lt-leb, cases_Bool, cases_lt, and_parts, and_from}
-use Rattle.list.specs.Layout.{lines_at, columns_at, list_size, lines_fit, list_fits, list_named, passing, all_pass, named_told, shapes, line_size}
+use Rattle.list.specs.Layout.{list_size, list_fits, list_named, passing, all_pass, named_told, shapes, line_size}
 use Rattle.condition.specs.Refusals.{Told, number, first, unless}
 use Rattle.condition.specs.Store.{count, store_fits, room, room_told}
 use Rattle.query.specs.Ask.{Query}
 use Rattle.query.specs.Reading.{Sized, Read, read, bad, then, check, by_sign, sign_in, reads, asked, sized, question_told, size_told}
 use Rattle.query.proofs.Placed.{Placed, reads_placed}
-use Rattle.answer.specs.Entry.{answer_size, ask_told, question}
+use Rattle.answer.specs.Entry.{answer_size, question}
 use Rattle.answer.specs.Numbers as plain
 use Rattle.answer.specs.Numbers.{SameNumber}
 

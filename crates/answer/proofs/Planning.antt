@@ -1,24 +1,21 @@
 -- A question that was read into parts has a plan that fits, with its lines, its width, its cost and its answer.
-use Rattle.std.proofs.Common.{◌≡◌, ℕ, zero, suc, ◌+◌, ◌-◌, ◌*◌, ◌<◌, ◌≤◌, min, Bool, true, false, ◌&&◌, ltb, List, [], ◌∷◌, ◌++◌, length, get_or, take, drop, None, sym, refl, ap, ◌∙◌, subst, mul_assoc, arith, length-take}
-use Rattle.std.proofs.lemmas.List.{get_or-drop}
+use Rattle.std.proofs.Common.{◌≡◌, ℕ, zero, suc, ◌+◌, ◌-◌, ◌*◌, ◌<◌, ◌≤◌, true, ltb, List, [], ◌∷◌, length, get_or, take, drop, None, sym, refl, ap, ◌∙◌, subst, mul_assoc, arith, length-take}
 use Rattle.std.proofs.lemmas.Bool.{ltb-true, and_parts}
-use Rattle.condition.specs.Store.{cell_in, has_name}
-use Rattle.list.specs.Layout.{line_size, list_size, shapes_in, shapes, all_in, named_below, lines_named, lines_fit}
-use Rattle.list.specs.Shapes.{shape_of, Shaped, AllShaped}
-use Rattle.list.specs.declared.shape.Shape.{Shape}
+use Rattle.condition.specs.Store.{has_name}
+use Rattle.list.specs.Layout.{line_size, list_size, shapes_in, shapes, all_in, named_below}
+use Rattle.list.specs.Shapes.{shape_of, AllShaped}
 use Rattle.list.specs.declared.shape.Shapes.{Shapes}
 use Rattle.list.proofs.Reading.{line_named, line_cell_named}
 use Rattle.query.specs.Ask.{Test, same, differ, is, is_not}
 use Rattle.query.specs.Reading.{Sized, all_below, test_fits}
 use Rattle.query.specs.Shapes.{test_of, part_at}
 use Rattle.query.specs.Parts.{sized_by, sized_of, FitsBy, NeedsBy, Parted}
-use Rattle.query.specs.Parts as parts
 use Rattle.query.specs.declared.Sign.{Sign}
 use Rattle.query.specs.declared.Sign.TheVariants.{Rows, Keep, Columns, Join, Union, Without}
 use Rattle.query.specs.declared.Part.{Part}
-use Rattle.answer.specs.Answer.{tested, cut_lines, lines_joined, lines_less, answer}
-use Rattle.answer.specs.Plan.{Plan, list, keep, columns, join, union, without, many, wide, size, less_size, cell_from, Inside, Listed, Fits}
-use Rattle.answer.specs.Planned.{plan_by, plan_of, Numbers, BelowBy, Counted, Sound}
+use Rattle.answer.specs.Answer.{tested, cut_lines, answer}
+use Rattle.answer.specs.Plan.{Plan, many, wide, size, Inside, Listed, Fits}
+use Rattle.answer.specs.Planned.{plan_by, plan_of, BelowBy, Counted, Sound}
 use Rattle.answer.proofs.Lines.{answer_to}
 use Rattle.answer.proofs.Views.{node_at, cell_at_line}
 

@@ -1,11 +1,11 @@
 -- Lines written one after the other, and what they are.
-use Rattle.std.proofs.Common.{◌≡◌, ℕ, suc, ◌+◌, ◌-◌, ◌*◌, ◌<◌, ◌≤◌, ◌⊎◌, List, length, get_or, drop, set, sym, refl, ap, ◌∙◌, subst, inl, inr, suc-mul, zero-add, add-one, arith, length-drop}
+use Rattle.std.proofs.Common.{◌≡◌, ℕ, suc, ◌+◌, ◌*◌, ◌≤◌, List, length, get_or, drop, set, sym, refl, ap, ◌∙◌, subst, inl, inr, suc-mul, add-one, arith, length-drop}
 use Rattle.std.proofs.lemmas.List.{length-set, get_or-set_other, get_or-drop, ext_get_or}
 use Rattle.std.proofs.lemmas.Bool.{cases_lt}
 use Rattle.condition.specs.Cond.{Cell}
 use Rattle.condition.specs.Store.{cell_in, cond_at, count, Grown}
 use Rattle.list.specs.Layout.{line_size, lines_in}
-use Rattle.answer.specs.Plan.{Plan, many, wide, place, cell_from, cell, says, Fits}
+use Rattle.answer.specs.Plan.{Plan, many, wide, place, cell_from, cell, Fits}
 use Rattle.answer.specs.Laid.{Laid}
 use Rattle.answer.specs.Written.{Put, Written}
 use Rattle.answer.proofs.Tabs.{tab_same}

@@ -1,9 +1,9 @@
 -- The answer put together from the lists' own lines, filled, is row by row what the question gives on the filled lists: one law
 -- for each kind of question.
-use Rattle.std.proofs.Common.{◌≡◌, ℕ, zero, suc, Bool, true, false, cond as if, not, ◌&&◌, List, [], ◌∷◌, ◌++◌, get_or, sym, refl, ap, ◌∙◌, arith}
+use Rattle.std.proofs.Common.{◌≡◌, ℕ, cond as if, not, ◌&&◌, List, [], ◌∷◌, refl, ap, arith}
 use Rattle.condition.specs.Cond.{Cell, Cond, both, not_so}
-use Rattle.evaluate.specs.Filling.{Filling, fill_cell, holds}
-use Rattle.list.specs.Lists.{Line, Row, fill_cells, filled, all_filled, same_row, stands}
+use Rattle.evaluate.specs.Filling.{Filling, holds}
+use Rattle.list.specs.Lists.{Line, fill_cells, filled, all_filled, same_row, stands}
 use Rattle.list.proofs.Filling.{fill_at, fill_app, filled_app, filled_table}
 use Rattle.query.specs.Ask.{Test, same, differ, is, is_not, Query, table, keep, columns, join, union, without, passes, kept, at_columns, cut_to, beside, joined, less, ask}
 use Rattle.answer.specs.Answer.{test_of, tested, some_cells, cut_lines, line_beside, lines_joined, cells_same, spared, lines_less, answer}

@@ -1,9 +1,9 @@
 -- The lists mean the same in a grown store.
-use Rattle.std.proofs.Common.{◌≡◌, ℕ, ◌+◌, ◌*◌, ◌<◌, ◌≤◌, true, ltb, List, [], length, get_or, drop, None, sym, refl, ap, ◌∙◌, arith}
+use Rattle.std.proofs.Common.{◌≡◌, ℕ, ◌+◌, ◌*◌, ◌<◌, ltb, List, [], get_or, drop, None, sym, refl, ◌∙◌, arith}
 use Rattle.std.proofs.lemmas.List.{ext_get_or}
 use Rattle.std.proofs.lemmas.Bool.{ltb-true}
 use Rattle.condition.specs.Refusals.{unless}
-use Rattle.condition.specs.Store.{count, cond_at, Grown}
+use Rattle.condition.specs.Store.{count, Grown}
 use Rattle.condition.proofs.Growing.{grown_cond}
 use Rattle.condition.proofs.Refusing.{first_none, unless_none}
 use Rattle.list.specs.Layout.{line_size, lines_in, all_in, all_pass, list_named, named_below}

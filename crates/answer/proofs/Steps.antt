@@ -1,10 +1,10 @@
 -- The loops that lay nodes, turn by turn.
-use Rattle.std.proofs.Common.{◌≡◌, ℕ, zero, suc, ◌+◌, ◌-◌, ◌*◌, ◌/◌, ◌%◌, ◌<◌, ◌≤◌, true, ◌⊎◌, List, length, sym, refl, ap, ◌∙◌, subst, inl, inr, mul-le-mul_right, suc-mul, zero-mul, add-one, arith}
+use Rattle.std.proofs.Common.{◌≡◌, ℕ, zero, suc, ◌+◌, ◌-◌, ◌*◌, ◌/◌, ◌%◌, ◌<◌, ◌≤◌, true, List, length, sym, refl, ◌∙◌, subst, inl, inr, mul-le-mul_right, suc-mul, zero-mul, add-one, arith}
 use Rattle.std.proofs.lemmas.Bool.{cases_lt}
 use Rattle.condition.specs.Cond.{Cell, Cond, equal, not_so, both}
 use Rattle.condition.specs.Store.{count, cond_at, has_name, comparison, Grown}
 use Rattle.condition.proofs.Growing.{grown_self, grown_cond, grown_trans}
-use Rattle.answer.specs.Plan.{Plan, many, wide, size, place, cell, less_size, rid, equals, Fits}
+use Rattle.answer.specs.Plan.{Plan, many, wide, place, cell, less_size, rid, equals}
 use Rattle.answer.specs.Laid.{Based, Ready, New, Added, now_at, last_of, less, Joined, Less}
 
 pub rid_same : (m w : ℕ) (f : ℕ → Cell) (d e : ℕ → Cond) (g : ℕ → ℕ → Cell) (a b : Cond) → ((j : ℕ) → j < m → d j ≡ e j) → a ≡ b → rid m w f d g a ≡ rid m w f e g b

@@ -1,7 +1,7 @@
 -- A question's nodes, from those of the questions below it.
-use Rattle.std.proofs.Common.{◌≡◌, ℕ, zero, suc, ◌+◌, ◌-◌, ◌*◌, ◌/◌, ◌%◌, ◌<◌, ◌≤◌, eqb, ltb, ◌⊎◌, List, length, get_or, sym, refl, ap, ◌∙◌, subst, inl, inr, mod-lt, div-lt_iff_lt-mul, mul-zero, zero-mul, arith}
+use Rattle.std.proofs.Common.{◌≡◌, ℕ, zero, suc, ◌+◌, ◌-◌, ◌*◌, ◌/◌, ◌%◌, ◌<◌, ◌≤◌, List, length, get_or, refl, ◌∙◌, subst, inl, inr, mod-lt, div-lt_iff_lt-mul, mul-zero, zero-mul, arith}
 use Rattle.std.proofs.lemmas.Bool.{cases_lt, lt-ltb, le-ltb, ne_eqb}
-use Rattle.condition.specs.Cond.{Cond, both}
+use Rattle.condition.specs.Cond.{both}
 use Rattle.condition.specs.Store.{count, cond_at, Grown}
 use Rattle.condition.proofs.Growing.{grown_self, grown_cond, grown_trans}
 use Rattle.list.specs.Layout.{line_size}

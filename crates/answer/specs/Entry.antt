@@ -4,11 +4,11 @@
 --   AskSays lists signs nodes out r ns os    what the reply is, and what the store and the answer's slice hold after
 --   Stays lists nodes ns                      the lists and all conditions that stood mean what they meant
 --   WhereDone r p                            p, where the reply r is an answer
-use Rattle.std.specs.Prelude.{◌≡◌, ℕ, ◌+◌, ◌*◌, ◌<◌, ◌≤◌, List, length, drop, Some, None, Option, nat_le}
+use Rattle.std.specs.Prelude.{◌≡◌, ℕ, ◌+◌, ◌*◌, ◌<◌, ◌≤◌, List, length, drop, Some, None, nat_le}
 use Rattle.condition.specs.Refusals.{Told, told, first, unless}
 use Rattle.condition.specs.Store.{count, cond_at, store_told, room_told, Grown}
 use Rattle.list.specs.Layout.{line_size, lines_in, known_in, all_in, lists_told, named_told}
-use Rattle.query.specs.Reading.{Sized, Read, asked, sized, question_told, size_told}
+use Rattle.query.specs.Reading.{Sized, asked, sized, question_told, size_told}
 use Rattle.answer.specs.Answer.{answer}
 use Rattle.answer.specs.declared.Reply.{Reply}
 use Rattle.answer.specs.declared.Reply.TheVariants.{Done, Refused}

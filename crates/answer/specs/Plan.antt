@@ -7,7 +7,7 @@
 --   cell ls p i a           the cell in column a of line i
 --   says ns ls p i          the condition of line i, by the nodes ns that the lists name
 --   Fits ls c p             its lists lie in ls and name only the first c nodes; columns are within, and widths agree
-use Rattle.std.specs.Prelude.{◌≡◌, ℕ, zero, suc, ◌+◌, ◌-◌, ◌*◌, ◌/◌, ◌%◌, ◌<◌, ◌≤◌, Bool, true, false, cond as if, List, [], ◌∷◌, length, ◌==◌, nat_lt, slice_index}
+use Rattle.std.specs.Prelude.{◌≡◌, ℕ, zero, suc, ◌+◌, ◌-◌, ◌*◌, ◌/◌, ◌%◌, ◌<◌, ◌≤◌, true, cond as if, List, length, ◌==◌, nat_lt, slice_index}
 use Rattle.condition.specs.Cond.{Cell, known, Cond, always, equal, not_so, both}
 use Rattle.condition.specs.Store.{cell_in, cond_at, has_name}
 use Rattle.list.specs.Layout.{line_size}

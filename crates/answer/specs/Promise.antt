@@ -3,7 +3,7 @@
 --   Answers what ts q out      out answers the question q on the lists ts, where what is known
 --   Sure what ts q r           the row r is in the answer under every filling that fits what is known
 --   Possible what ts q r       under one
-use Rattle.std.specs.Prelude.{◌≡◌, Bool, true, false, List}
+use Rattle.std.specs.Prelude.{◌≡◌, true, false, List}
 use Rattle.condition.specs.Cond.{Cond, both}
 use Rattle.evaluate.specs.Filling.{Filling, holds}
 use Rattle.list.specs.Lists.{Line, Row, filled, all_filled, stands, Alike}

@@ -108,7 +108,7 @@ fn and_test(nodes: &mut [u64], c: u64, alike: bool, x: Cell, y: Cell)
     requires stands { c < count nodes.old }
     requires named { (has_name (cell_of x) ≡ true) × (has_name (cell_of y) ≡ true) }
     requires room { 16 + 5 * count nodes.old ≤ length nodes.old }
-    ensures { New 3 (count nodes.old + 3 - 1) (both (cond_at nodes.old c) (if Alike (equal (cell_of x) (cell_of y)) (not_so (equal (cell_of x) (cell_of y))))) nodes.old nodes.new }
+    ensures { New 3 (count nodes.old + 3 - 1) (both (cond_at nodes.old c) (if alike (equal (cell_of x) (cell_of y)) (not_so (equal (cell_of x) (cell_of y))))) nodes.old nodes.new }
 {
     let e = add(nodes, Node::Equal(x, y));
     let d = add(nodes, Node::Not(e));

@@ -1,4 +1,4 @@
-use Rattle.std.proofs.Common.{◌≡◌, sym, refl, ap, ◌∙◌}
+use Rattle.std.proofs.Common.{◌∙◌}
 use Rattle.list.specs.Layout.{shapes, known_in, all_in}
 use Rattle.query.specs.Reading.{asked}
 use Rattle.answer.specs.Entry.{question}

@@ -1,4 +1,4 @@
-use Rattle.std.proofs.Common.{◌≡◌, ◌+◌, ◌*◌, ◌<◌, ◌≤◌, sym, refl, ap, ◌∙◌, mul-le-mul, arith, rules}
+use Rattle.std.proofs.Common.{◌≡◌, ◌+◌, ◌*◌, ◌≤◌, refl, ◌∙◌, mul-le-mul, arith, rules}
 use Rattle.list.specs.Layout.{shapes}
 use Rattle.query.specs.Reading.{asked}
 use Rattle.query.proofs.Shaping.{pairs_all}

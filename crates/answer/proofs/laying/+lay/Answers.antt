@@ -1,5 +1,5 @@
 -- Each sign by its plan, with the nodes laid for the questions below it.
-use Rattle.std.proofs.Common.{◌≡◌, ◌+◌, ◌-◌, ◌*◌, ◌<◌, ◌≤◌, sym, refl, ◌∙◌, subst, arith}
+use Rattle.std.proofs.Common.{sym, refl, ◌∙◌, subst, arith}
 use Rattle.condition.proofs.Growing.{grown_trans}
 use Rattle.query.specs.Shapes.{test_of}
 use Rattle.answer.specs.Plan.{Fits}

@@ -1,8 +1,6 @@
-use Rattle.std.proofs.Common.{◌≡◌, ◌+◌, ◌-◌, ◌*◌, ◌/◌, ◌%◌, ◌<◌, ◌≤◌, sym, refl, ap, ◌∙◌, subst, arith}
-use Rattle.condition.specs.Store.{count}
-use Rattle.answer.specs.Plan.{many, wide, cell, place, less_size}
+use Rattle.std.proofs.Common.{◌-◌, ◌*◌, ◌∙◌, arith}
+use Rattle.answer.specs.Plan.{wide, cell}
 use Rattle.answer.specs.Planned.{plan_of}
-use Rattle.condition.specs.Shapes.{cell_of}
 use Rattle.condition.proofs.Growing.{grown_self}
 use Rattle.answer.specs.Plan.{equals}
 use Rattle.answer.proofs.Views.{some_parts, numbers, cell_named}

@@ -1,6 +1,5 @@
-use Rattle.std.proofs.Common.{◌≡◌, ◌+◌, ◌-◌, ◌*◌, ◌/◌, ◌%◌, ◌<◌, ◌≤◌, sym, refl, ap, ◌∙◌, subst, arith}
-use Rattle.condition.specs.Store.{count}
-use Rattle.answer.specs.Plan.{many, wide, cell, place, less_size}
+use Rattle.std.proofs.Common.{◌≡◌, ◌*◌, ◌<◌, refl, subst, arith}
+use Rattle.answer.specs.Plan.{many}
 use Rattle.answer.specs.Planned.{plan_of}
 use Rattle.answer.specs.Laid.{Joined}
 use Rattle.answer.proofs.Views.{some_parts, numbers}

@@ -1,4 +1,4 @@
-use Rattle.std.proofs.Common.{◌≡◌, ◌+◌, ◌*◌, ◌<◌, ◌≤◌, refl, subst, arith}
+use Rattle.std.proofs.Common.{◌≡◌, ◌<◌, refl, subst, arith}
 use Rattle.condition.specs.Store.{count}
 use Rattle.condition.proofs.Growing.{grown_cond}
 use Rattle.query.specs.Shapes.{test_of}

@@ -1,6 +1,5 @@
-use Rattle.std.proofs.Common.{◌≡◌, ◌+◌, ◌-◌, ◌*◌, ◌/◌, ◌%◌, ◌<◌, ◌≤◌, sym, refl, ap, ◌∙◌, subst, arith}
-use Rattle.condition.specs.Store.{count}
-use Rattle.answer.specs.Plan.{many, wide, cell, place, less_size}
+use Rattle.std.proofs.Common.{◌≡◌, ◌+◌, ◌*◌, ◌<◌, arith}
+use Rattle.answer.specs.Plan.{many, wide}
 use Rattle.answer.specs.Planned.{plan_of}
 use Rattle.answer.proofs.Views.{some_parts, numbers}
 use Rattle.answer.proofs.Steps.{less_none, less_more, less_all, based_grown, ready_more, row}

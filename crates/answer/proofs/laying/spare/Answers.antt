@@ -1,6 +1,5 @@
-use Rattle.std.proofs.Common.{◌≡◌, ◌+◌, ◌-◌, ◌*◌, ◌/◌, ◌%◌, ◌<◌, ◌≤◌, sym, refl, ap, ◌∙◌, subst, arith}
-use Rattle.condition.specs.Store.{count}
-use Rattle.answer.specs.Plan.{many, wide, cell, place, less_size}
+use Rattle.std.proofs.Common.{refl, arith}
+use Rattle.answer.specs.Plan.{wide}
 use Rattle.answer.specs.Planned.{plan_of}
 use Rattle.answer.proofs.Steps.{spare_turn, new_one}
 use Rattle.answer.proofs.laying.spare.Goals as goal

@@ -1,10 +1,9 @@
 -- Each sign by its plan, with where the nodes of the questions below it stand.
-use Rattle.std.proofs.Common.{◌≡◌, ◌+◌, ◌-◌, ◌*◌, ◌<◌, ◌≤◌, sym, refl, ap, ◌∙◌, add-zero, arith}
-use Rattle.std.proofs.lemmas.List.{get_or-drop}
+use Rattle.std.proofs.Common.{◌≡◌, ◌+◌, ◌*◌, ◌<◌, ◌≤◌, refl, ap, ◌∙◌, arith}
 use Rattle.std.proofs.lemmas.Bool.{lt-ltb, le-ltb, ne_eqb}
 use Rattle.list.specs.Layout.{line_size}
 use Rattle.list.specs.Shapes.{shape_of}
-use Rattle.answer.specs.Plan.{many, wide, size, place, less_size}
+use Rattle.answer.specs.Plan.{many, place}
 use Rattle.answer.specs.Planned.{plan_of}
 use Rattle.answer.proofs.Views.{no_left, some_parts, numbers, rows_view, keep_view, columns_view, join_view, union_view, without_view, less_room, less_place, some_less, node_at}
 use Rattle.answer.proofs.places.+place.Goals as goal

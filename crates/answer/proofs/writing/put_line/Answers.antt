@@ -1,4 +1,4 @@
-use Rattle.std.proofs.Common.{◌≡◌, ◌+◌, ◌*◌, ◌<◌, ◌≤◌, set, subst, arith}
+use Rattle.std.proofs.Common.{◌≡◌, set, subst, arith}
 use Rattle.std.proofs.lemmas.List.{length-set}
 use Rattle.answer.specs.Plan.{wide, place, cell}
 use Rattle.answer.specs.Planned.{plan_of}

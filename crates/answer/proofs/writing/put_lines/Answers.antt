@@ -1,4 +1,4 @@
-use Rattle.std.proofs.Common.{◌≡◌, ◌+◌, ◌*◌, ◌<◌, ◌≤◌, subst, arith}
+use Rattle.std.proofs.Common.{◌≡◌, ◌+◌, ◌*◌, ◌<◌, subst, arith}
 use Rattle.list.specs.Layout.{line_size}
 use Rattle.answer.specs.Plan.{many, wide, place, cell}
 use Rattle.answer.specs.Planned.{plan_of}
