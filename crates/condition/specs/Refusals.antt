@@ -6,7 +6,7 @@
 --   unless t n p       number n at place p where the test t fails
 use Rattle.std.specs.Prelude.{ℕ, ◌+◌, Bool, true, false, Some, None, Ok, Err, Option, Result}
 use Rattle.condition.specs.declared.Refusal.{Refusal}
-use Rattle.condition.specs.declared.Refusal.TheVariants.{BadLists, BadStore, NoSuchNode, BadQuestion, TooManyLines, TooCostly, StoreFull, AnswerTooShort, WrongWidth, TooManyGaps, TooManyNumbers, WouldNotFit, NothingFits, RowsFull, NoMemory}
+use Rattle.condition.specs.declared.Refusal.TheVariants.{BadLists, BadStore, NoSuchNode, BadQuestion, TooManyLines, TooCostly, StoreFull, AnswerTooShort, WrongWidth, TooManyGaps, TooManyNumbers, TooManyNumbersAt, WouldNotFit, NothingFits, RowsFull, NoMemory}
 
 -- number and place
 abbrev pub Told : Type 0
@@ -24,6 +24,7 @@ told (AnswerTooShort size) = (7, size)
 told (WrongWidth width) = (8, width)
 told (TooManyGaps gaps) = (9, gaps)
 told (TooManyNumbers numbers) = (9, 64 + numbers)
+told (TooManyNumbersAt place) = (9, place)
 told (WouldNotFit node) = (10, node)
 told NothingFits = (11, 0)
 told (RowsFull rows) = (12, rows)

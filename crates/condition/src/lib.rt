@@ -66,6 +66,8 @@ pub enum Refusal {
     TooManyGaps(u32),
     // 9: how many numbers are named.
     TooManyNumbers(u32),
+    // 9: 64 and how many numbers are named, where they may be more than 32 bits hold.
+    TooManyNumbersAt(u64),
     // 10: the node that was to be learned.
     WouldNotFit(u64),
     // 11: no filling fits what is known.
@@ -93,6 +95,7 @@ impl Refusal {
             Refusal::WrongWidth(width) => (8, width),
             Refusal::TooManyGaps(gaps) => (9, u64::from(gaps)),
             Refusal::TooManyNumbers(numbers) => (9, 64 + u64::from(numbers)),
+            Refusal::TooManyNumbersAt(place) => (9, place),
             Refusal::WouldNotFit(node) => (10, node),
             Refusal::NothingFits => (11, 0),
             Refusal::RowsFull(rows) => (12, rows),

@@ -13,7 +13,7 @@ ghost use Rattle.decide.specs.Surveying.{Surveyed};
 use crate::counting::count_numbers;
 use crate::noting::{Names, Notes};
 use condition::{Refusal, store_count};
-use list::{check_lists, check_named, lines_fit, lines_named};
+use list::{any_lines_fit, any_lines_named, check_lists, check_named};
 
 // How many nodes stand in the store; or why the lists, the store or an answer of n lines, w cells wide, is refused.
 pub(crate) fn check_answer(
@@ -31,7 +31,7 @@ pub(crate) fn check_answer(
         return fitting;
     };
     let whole = whole_lines(answer, n, w);
-    if !lines_fit(answer, whole, w as usize) {
+    if !any_lines_fit(answer, whole, w as usize) {
         return Err(Refusal::BadLists(9));
     }
     let stored = store_count(nodes);
@@ -42,7 +42,7 @@ pub(crate) fn check_answer(
     let Ok(_) = named else {
         return named;
     };
-    if !lines_named(answer, whole, w as usize, count) {
+    if !any_lines_named(answer, whole, w as usize, count) {
         return Err(Refusal::NoSuchNode(9));
     }
     if whole as u64 != n {
@@ -70,7 +70,7 @@ pub(crate) fn check_named_few(
         return Err(Refusal::TooManyGaps(gaps));
     }
     if notes.numbers().len() > 8 {
-        return Err(Refusal::TooManyNumbers(64 + count_numbers(nodes, n, marks, row)));
+        return Err(Refusal::TooManyNumbersAt(64 + count_numbers(nodes, n, marks, row)));
     }
     Ok(notes.gap_names())
 }

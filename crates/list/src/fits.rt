@@ -71,6 +71,14 @@ fn lines_fit(xs: &[u64], n: usize, w: usize) -> bool
     requires whole { n * line_size w ≤ length xs.now }
     ensures { result ≡ lines_fit n w xs.now }
 {
+    any_lines_fit(xs, n, w)
+}
+
+// The same for lines of any width.
+pub fn any_lines_fit(xs: &[u64], n: usize, w: usize) -> bool
+    requires { n * line_size w ≤ length xs.now }
+    ensures { result ≡ lines_fit n w xs.now }
+{
     for i in 0..n {
         if !cells_fit(&xs[i * (1 + 2 * w) + 1..], w) {
             return false;

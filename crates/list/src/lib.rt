@@ -16,9 +16,9 @@ mod named;
 mod shape;
 
 pub use filled::rows;
-pub use fits::check_lists;
+pub use fits::{any_lines_fit, check_lists};
 pub use lines::{line, line_cell, line_node};
-pub use named::check_named;
+pub use named::{any_lines_named, check_named};
 pub use shape::{Shape, Shapes};
 
 // How many lists there are; or why the lists are none, or else the store is none, or else a node they name does not stand.

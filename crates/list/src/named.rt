@@ -55,6 +55,14 @@ fn lines_named(xs: &[u64], n: usize, w: usize, count: u64) -> bool
     requires whole { n * line_size w ≤ length xs.now }
     ensures { result ≡ lines_named count n w xs.now }
 {
+    any_lines_named(xs, n, w, count)
+}
+
+// The same for lines of any width.
+pub fn any_lines_named(xs: &[u64], n: usize, w: usize, count: u64) -> bool
+    requires { n * line_size w ≤ length xs.now }
+    ensures { result ≡ lines_named count n w xs.now }
+{
     for i in 0..n {
         if xs[i * (1 + 2 * w)] >= count {
             return false;

@@ -2,7 +2,7 @@ use Rattle.std.proofs.Common.{◌+◌, ◌*◌, drop, arith}
 use Rattle.std.proofs.lemmas.List.{take_rest}
 use Rattle.list.specs.Layout.{line_size}
 use Rattle.list.proofs.Stepping.{line_within, part_long, lines_fit_step, lines_fit_none}
-use Rattle.list.proofs.fits.lines_fit.Goals as goal
+use Rattle.list.proofs.fits.any_lines_fit.Goals as goal
 
 pub offset_bounds-xs-i : goal.offset_bounds-xs-i
 offset_bounds-xs-i c = omega (arith, line_within c.loop-i.i c.args.n (line_size c.args.w) c.loop-i-test.true)

@@ -2,7 +2,7 @@ use Rattle.std.proofs.Common.{◌*◌, drop, arith}
 use Rattle.std.proofs.lemmas.Bool.Decides.{nat_tests}
 use Rattle.list.specs.Layout.{line_size}
 use Rattle.list.proofs.Stepping.{line_within, lines_named_step, lines_named_none}
-use Rattle.list.proofs.named.lines_named.Goals as goal
+use Rattle.list.proofs.named.any_lines_named.Goals as goal
 
 pub offset_bounds-xs-i : goal.offset_bounds-xs-i
 offset_bounds-xs-i c = omega (arith, line_within c.loop-i.i c.args.n (line_size c.args.w) c.loop-i-test.true)
