@@ -1,15 +1,15 @@
 -- A line and a row cell by cell, and the lines that decide the row one after the other.
-use Rattle.std.proofs.Common.{◌≡◌, ℕ, suc, ◌+◌, ◌-◌, ◌*◌, ◌<◌, ◌≤◌, Bool, true, false, cond as if, ◌&&◌, ◌≢◌, ◌⊎◌, List, [], ◌∷◌, ◌++◌, map, length, get_or, drop, set, sym, refl, ap, ◌∙◌, inl, inr, ⊎_elim, append_assoc, add-one, arith, drop-cons}
+use Rattle.std.proofs.Common.{◌≡◌, ℕ, ◌+◌, ◌-◌, ◌*◌, ◌<◌, ◌≤◌, Bool, true, false, ◌&&◌, ◌≢◌, List, [], ◌∷◌, ◌++◌, map, length, get_or, drop, set, sym, refl, ap, ◌∙◌, inl, inr, append_assoc, add-one, arith, drop-cons}
 use Rattle.std.proofs.lemmas.List.{get_or-drop, drop-drop, drop_all, get_or-set_same, get_or-set_other}
 use Rattle.std.proofs.lemmas.Bool.{both_ways, cases_eq}
-use Rattle.condition.specs.Cond.{Cell, known, cells_of}
+use Rattle.condition.specs.Cond.{Cell, known, gap, cells_of}
 use Rattle.condition.specs.Store.{cell_in, has_name, cond_at}
 use Rattle.list.specs.Layout.{line_size, cells_in, lines_in, cells_fit}
 use Rattle.list.specs.Lists.{Line, Row}
 use Rattle.list.proofs.Stepping.{left_step}
 use Rattle.list.proofs.Reading.{line_in, length_cells, length_lines, line_cell_at, line_at, cells_fit_at, fits_named}
 use Rattle.decide.specs.Deciding.{agrees_cell, agrees, deciding, cells_in_lines, conds_in_lines}
-use Rattle.decide.specs.Reaching.{marked, Covers, AllCovered}
+use Rattle.decide.specs.Reaching.{marked}
 use Rattle.decide.specs.Noting.{Noted}
 use Rattle.decide.specs.Matching.{cells_at, node_at, LinesMarked, Matched}
 use Rattle.decide.specs.declared.noting.Notes.{Notes}
@@ -22,6 +22,12 @@ drop_next xs a d l = rw (add-one, drop-cons xs a d l) refl
 pub drop_back : {X : Type 0} (xs : List X) (a : ℕ) (d : X) → 0 < a → a ≤ length xs → drop (a - 1) xs ≡ get_or xs (a - 1) d ∷ drop a xs
 drop_back xs a d p l = let e : a - 1 + 1 ≡ a = omega arith in drop_next xs (a - 1) d (omega arith) ∙ ap (λ t. get_or xs (a - 1) d ∷ drop t xs) e
 
+-- by the cell in front: a number agrees with itself, and a gap with every number
+agrees_cons : (c : Cell) (cs : List Cell) (n : ℕ) (ns : Row) → agrees (c ∷ cs) (n ∷ ns) ≡ (agrees_cell c n && agrees cs ns)
+unfolding agrees
+agrees_cons (known m) cs n ns = refl
+agrees_cons (gap k) cs n ns = refl
+
 pub agrees_step : (w a : ℕ) (line row : List ℕ) → a < w → w ≡ length row →
     agrees (cells_in (w - a) (drop (2 * a) (drop 1 line))) (drop a row)
     ≡ (agrees_cell (cell_in (get_or line (1 + 2 * a) 0) (get_or line (2 + 2 * a) 0)) (get_or row a 0) && agrees (cells_in (w - (a + 1)) (drop (2 * (a + 1)) (drop 1 line))) (drop (a + 1) row))
@@ -29,7 +35,8 @@ unfolding agrees cells_in
 agrees_step w a line row l e =
     let b : a < length row = omega arith in
     let f : 2 * a + 0 ≡ 2 * a = omega arith in let g : 1 + (2 * a + 1) ≡ 2 + 2 * a = omega arith in let h : 2 * a + 2 ≡ 2 * (a + 1) = omega arith in
-    rw (left_step w a l, drop_next row a 0 b, get_or-drop (2 * a) (drop 1 line) 0 0, get_or-drop (2 * a) (drop 1 line) 1 0, f, get_or-drop 1 line (2 * a) 0, get_or-drop 1 line (2 * a + 1) 0, g, drop-drop 2 (2 * a) (drop 1 line), h) refl
+    rw (left_step w a l, drop_next row a 0 b, get_or-drop (2 * a) (drop 1 line) 0 0, get_or-drop (2 * a) (drop 1 line) 1 0, f, get_or-drop 1 line (2 * a) 0, get_or-drop 1 line (2 * a + 1) 0, g, drop-drop 2 (2 * a) (drop 1 line), h)
+    (agrees_cons (cell_in (get_or line (1 + 2 * a) 0) (get_or line (2 + 2 * a) 0)) (cells_in (w - (a + 1)) (drop (2 * (a + 1)) (drop 1 line))) (get_or row a 0) (drop (a + 1) row))
 
 pub agrees_none : (w a : ℕ) (xs row : List ℕ) → w ≤ a → length row ≤ a → agrees (cells_in (w - a) xs) (drop a row) ≡ true
 unfolding agrees cells_in

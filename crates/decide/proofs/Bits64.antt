@@ -1,8 +1,8 @@
 -- The bits of numbers put together.
-use Rattle.std.proofs.Common.{◌≡◌, ℕ, zero, suc, ◌+◌, ◌-◌, ◌*◌, ◌/◌, ◌%◌, ◌^◌, ◌<◌, ◌≤◌, min, max, Bool, true, false, not, ◌&&◌, ◌||◌, eqb, ◌⊎◌, sym, refl, ap, ◌∙◌, subst, inl, inr, mod-eq_of_lt, one-mul, pow-suc, div-one, mul-div_cancel, one-add, arith}
-use native.Mathlib.Nat.{mul-add-mod_self_right, pow-zero}
+use Rattle.std.proofs.Common.{◌≡◌, ℕ, zero, suc, ◌-◌, ◌/◌, ◌%◌, ◌^◌, ◌<◌, min, max, Bool, true, false, not, ◌&&◌, ◌||◌, eqb, ◌⊎◌, sym, refl, ap, ◌∙◌, subst, inl, inr, mod-eq_of_lt, pow-suc, div-one, one-add, arith}
+use native.Mathlib.Nat.{mul-add-mod_self_right}
 use lib.Bits.{bit_and, bit_or, bit_xor, differ, and_step, or_step, xor_step, xor_add_and}
-use Rattle.std.proofs.lemmas.Nat.{shr-shr, and_shr, or_shr, xor_shr, and_mask, mod_below, pow_pos, pow_below, one_shl, shl-shr, div-add-mod'}
+use Rattle.std.proofs.lemmas.Nat.{shr-shr, and_shr, or_shr, xor_shr, and_mask, mod_below, pow_below, shl-shr}
 use Rattle.std.proofs.lemmas.Bool.{eq-eqb, ne_eqb}
 use Rattle.std.proofs.lemmas.Bool.Decides.{nat_tests}
 use Rattle.decide.specs.Bit.{bit}

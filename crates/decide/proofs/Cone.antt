@@ -1,15 +1,12 @@
 -- Laws of cones: what stands in a grown cone, and a node found in a cone or added to it.
-use Rattle.std.proofs.Common.{◌≡◌, ℕ, zero, suc, ◌+◌, ◌*◌, ◌<◌, true, List, [], ◌++◌, sym, refl, ap, ◌∙◌, inl, inr, ⊎_elim, arith}
-use Rattle.std.proofs.lemmas.Bool.{cases_lt, lt-ltb, and_from, or_cases}
-use Rattle.condition.specs.Cond.{Cond, always, never, cells_of, numbers_in, gaps_in, has, Within}
-use Rattle.condition.specs.Cond as conditions
+use Rattle.std.proofs.Common.{◌≡◌, ℕ, zero, suc, ◌+◌, ◌*◌, ◌<◌, true, List, sym, refl, ap, ◌∙◌, inl, inr, arith}
+use Rattle.std.proofs.lemmas.Bool.{cases_lt, lt-ltb, and_from}
+use Rattle.condition.specs.Cond.{Cond, always, never, cells_of}
 use Rattle.condition.specs.Store.{count, cond_at, Grown}
 use Rattle.condition.specs.Shapes.{node_of, Named}
 use Rattle.condition.specs.Nodes.{decoded, behind, Added, StandsAs}
 use Rattle.condition.specs.declared.Node.{Node}
 use Rattle.condition.specs.declared.Node.TheVariants.{Always, Never, Equal, Not, Both, Either}
-use Rattle.condition.proofs.Lists.{has_none, has_app}
-use Rattle.condition.proofs.Named.{numbers_app, gaps_app}
 use Rattle.condition.proofs.Growing.{grown_self, grown_cond}
 use Rattle.condition.proofs.Decoding.{stands_means}
 use Rattle.condition.proofs.Added.{added_decoded}

@@ -1,5 +1,5 @@
 -- Laws of `Covers`: the numbers and the gaps that stand in cells.
-use Rattle.std.proofs.Common.{◌≡◌, ℕ, Bool, true, false, ◌||◌, ◌⊎◌, List, [], ◌∷◌, ◌++◌, sym, refl, ap, ◌∙◌, ⊎_elim}
+use Rattle.std.proofs.Common.{◌≡◌, ℕ, true, ◌⊎◌, List, [], ◌++◌, sym, ◌∙◌, ⊎_elim}
 use Rattle.std.proofs.lemmas.Bool.{or_cases}
 use Rattle.condition.specs.Cond.{Cell, numbers_in, gaps_in, has, Within}
 use Rattle.condition.proofs.Lists.{has_none, has_app, has_left, has_right}

@@ -1,7 +1,7 @@
 -- What decides a row, copied: the cells that are drawn on.
-use Rattle.std.proofs.Common.{◌≡◌, ℕ, zero, suc, ◌+◌, ◌*◌, ◌<◌, ◌≤◌, Bool, true, false, cond as if, ◌&&◌, List, [], ◌∷◌, ◌++◌, map, get_or, drop, sym, refl, ap, ◌∙◌, arith}
+use Rattle.std.proofs.Common.{◌≡◌, ℕ, zero, suc, ◌+◌, ◌*◌, ◌<◌, ◌≤◌, Bool, true, false, cond as if, ◌&&◌, List, ◌++◌, map, get_or, drop, refl, arith}
 use Rattle.std.proofs.lemmas.Bool.{and_parts}
-use Rattle.condition.specs.Cond.{known, Cond, cells_of, numbers_in, gaps_in, has, Within}
+use Rattle.condition.specs.Cond.{known, Cond, cells_of, numbers_in, Within}
 use Rattle.condition.specs.Store.{has_name, count, cond_at}
 use Rattle.condition.specs.Shapes.{cell_of, Named}
 use Rattle.condition.specs.Nodes.{cell_from, compared, node_from, decoded}

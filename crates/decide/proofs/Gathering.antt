@@ -1,18 +1,17 @@
 -- The steps of the search over rows.
-use Rattle.std.proofs.Common.{◌≡◌, ℕ, zero, suc, ◌+◌, ◌-◌, ◌<◌, ◌≤◌, Bool, true, false, cond as if, not, ◌&&◌, ◌||◌, eqb, ltb, ◌≢◌, ◌⊎◌, List, [], ◌∷◌, length, get_or, take, set, is_some, Some, None, Option, sym, refl, ap, ◌∙◌, subst, inl, inr, arith, get_or-set_other, get_or-set_same, below_more}
+use Rattle.std.proofs.Common.{◌≡◌, ℕ, suc, ◌+◌, ◌-◌, ◌<◌, ◌≤◌, Bool, true, false, cond as if, not, ◌&&◌, ◌||◌, eqb, ◌⊎◌, List, [], ◌∷◌, length, get_or, take, is_some, Some, None, Option, sym, refl, ap, ◌∙◌, subst, inl, inr, arith, below_more}
 use mathlib.Core.Path.{fun_ext}
 use Rattle.std.proofs.lemmas.List.{get_or-take, length-take-le}
-use Rattle.std.proofs.lemmas.Bool.{both_ways, cases_lt, cases_eq, lt-ltb, le-ltb, eqb-true, or_cases, or_parts, and_parts, and_cases, not-false}
-use Rattle.condition.specs.Cond.{Cond, both, not_so, cells_of, numbers, gaps, has, Within}
+use Rattle.std.proofs.lemmas.Bool.{both_ways, cases_lt, lt-ltb, le-ltb, eqb-true, or_cases, or_parts}
+use Rattle.condition.specs.Cond.{Cond, cells_of, numbers, gaps, has, Within}
 use Rattle.condition.proofs.Lists.{has_none, has_cons, has_at}
 use Rattle.evaluate.specs.Filling.{Filling, put, holds}
 use Rattle.decide.specs.Bit.{lane}
 use Rattle.decide.specs.Might.{might, Dead, put_on}
-use Rattle.decide.specs.Rows.{name, place, Placed, on_of, number_at, filling_of, blank, row}
+use Rattle.decide.specs.Rows.{name, place, on_of, number_at, filling_of, blank, row}
 use Rattle.decide.specs.Lanes.{rail, goal_of}
-use Rattle.decide.specs.Search.{Pool, SetUp, Begun, AllBegun, found, Sound, DeadFrom, Searched, wanted, First, OrFirst, Extended}
+use Rattle.decide.specs.Search.{Pool, SetUp, Begun, AllBegun, found, Sound, DeadFrom, Searched, wanted, OrFirst, Extended}
 use Rattle.decide.specs.declared.rows.Row.{Row}
-use Rattle.decide.specs.declared.words.Word.{Word}
 use Rattle.decide.specs.declared.lanes.Rails.{Rails}
 use Rattle.decide.specs.declared.task.Task.{Task}
 use Rattle.decide.specs.declared.task.Goal.{Goal}

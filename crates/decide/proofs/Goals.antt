@@ -1,9 +1,9 @@
 -- The two goals of a search, and how the row stands by them.
-use Rattle.std.proofs.Common.{◌≡◌, ℕ, zero, suc, ◌+◌, ◌^◌, ◌<◌, ◌≤◌, Bool, true, false, cond as if, not, ◌&&◌, eqb, ◌⊎◌, ◌↔◌, List, [], ◌∷◌, ◌++◌, map, length, get_or, take, is_some, Some, None, Option, sym, refl, ap, ◌∙◌, inl, inr, ⊎_elim, arith, length-take}
+use Rattle.std.proofs.Common.{◌≡◌, ℕ, zero, suc, ◌^◌, ◌<◌, ◌≤◌, Bool, true, false, eqb, List, [], ◌∷◌, ◌++◌, map, length, get_or, take, is_some, Some, None, Option, sym, refl, ◌∙◌, inl, inr, ⊎_elim, arith, length-take}
 use Rattle.std.proofs.lemmas.List.{get_or-take, get_or_past}
 use Rattle.std.proofs.lemmas.Bool.{both_ways, cases_lt, eqb-true, or_cases}
-use Rattle.condition.specs.Cond.{Cell, known, Cond, both, not_so, cells_of, numbers_in, gaps_in, numbers, gaps, has, Within}
-use Rattle.condition.specs.Store.{count, cond_at}
+use Rattle.condition.specs.Cond.{Cell, known, Cond, both, not_so, cells_of, numbers_in, has, Within}
+use Rattle.condition.specs.Store.{cond_at}
 use Rattle.condition.proofs.Lists.{has_none, has_cons, has_left, has_right}
 use Rattle.evaluate.specs.Filling as fillings
 use Rattle.evaluate.specs.Filling.{holds}

@@ -1,5 +1,5 @@
 -- Laws of `Means`: conditions built in a cone one after the other.
-use Rattle.std.proofs.Common.{◌≡◌, ℕ, zero, suc, ◌+◌, ◌-◌, ◌*◌, ◌<◌, ◌≤◌, Bool, true, false, cond as if, ◌&&◌, ◌||◌, List, [], ◌∷◌, ◌++◌, map, length, get_or, drop, sym, refl, ap, ◌∙◌, mul-le-mul_right, suc-mul, arith}
+use Rattle.std.proofs.Common.{◌≡◌, ℕ, zero, suc, ◌+◌, ◌-◌, ◌*◌, ◌<◌, ◌≤◌, Bool, true, false, cond as if, List, [], ◌∷◌, ◌++◌, map, length, get_or, drop, refl, ap, ◌∙◌, mul-le-mul_right, suc-mul, arith}
 use Rattle.condition.specs.Cond.{known, Cond, always, never, equal, both, either}
 use Rattle.condition.specs.Cond as conditions
 use Rattle.std.proofs.lemmas.List.{drop_all}
@@ -16,7 +16,7 @@ use Rattle.list.specs.Lists.{Line}
 use Rattle.decide.specs.Deciding.{gives, shows, agrees, deciding, cells_in_lines}
 use Rattle.decide.specs.Matching.{cells_at, node_at}
 use Rattle.decide.specs.Reaching.{Covers}
-use Rattle.decide.specs.Folding.{Begun, Tidy, Covered, Built}
+use Rattle.decide.specs.Folding.{Begun, Tidy, Built}
 use Rattle.decide.specs.Showing.{Means, Placed, row_cells, nodes_for, deciding_in}
 use Rattle.decide.proofs.Coverage.{covers_both, covers_left, covers_right}
 use Rattle.decide.proofs.Agreeing.{drop_back, cells_none, cells_back, lines_none, lines_back}

@@ -1,7 +1,7 @@
 -- What a condition comes to is always among what it might; with all its gaps settled nothing else is.
-use Rattle.std.proofs.Common.{◌≡◌, ℕ, Bool, true, false, not, ◌&&◌, ◌||◌, eqb, ◌⊎◌, List, [], ◌∷◌, ◌++◌, sym, refl, ap, ◌∙◌, subst, inl, inr}
+use Rattle.std.proofs.Common.{◌≡◌, ℕ, Bool, true, false, not, ◌&&◌, ◌||◌, eqb, List, [], ◌∷◌, sym, refl, ap, ◌∙◌, subst, inl, inr}
 use Rattle.std.proofs.lemmas.Bool.{both_ways, eqb-true, and_from, or_left, or_right}
-use Rattle.condition.specs.Cond.{Cell, known, gap, Cond, always, never, equal, not_so, both, either, cells_of, gaps, has}
+use Rattle.condition.specs.Cond.{Cell, known, gap, Cond, always, never, equal, not_so, both, either, cells_of}
 use Rattle.condition.proofs.Lists.{eqb_self}
 use Rattle.condition.proofs.Named.{OneOf, one_left, one_right, gap_named}
 use Rattle.evaluate.specs.Filling.{Filling, fill_cell, holds}

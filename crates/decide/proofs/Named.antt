@@ -1,10 +1,10 @@
 -- A sure row has only numbers that stand in what is known or in the answer's cells: any other could be put out of every filling.
-use Rattle.std.proofs.Common.{◌≡◌, ℕ, zero, suc, ◌+◌, ◌<◌, Bool, true, false, cond as if, ◌||◌, eqb, ◌⊎◌, List, [], ◌∷◌, ◌++◌, sym, refl, ap, ◌∙◌, inl, inr, ⊎_elim, arith}
+use Rattle.std.proofs.Common.{◌≡◌, ℕ, suc, ◌+◌, ◌<◌, Bool, true, false, cond as if, eqb, List, [], ◌∷◌, ◌++◌, sym, refl, ap, ◌∙◌, ⊎_elim, arith}
 use Rattle.std.proofs.lemmas.Bool.{both_ways, eqb-true, eqb-false, ne_eqb, or_cases, or_parts, or_from, cases_Bool}
-use Rattle.condition.specs.Cond.{Cell, known, gap, Cond, numbers, numbers_in, gaps, has}
-use Rattle.condition.proofs.Lists.{has_none, has_cons, has_app, has_apart, lacks_parts}
+use Rattle.condition.specs.Cond.{Cell, known, gap, numbers, numbers_in, gaps, has}
+use Rattle.condition.proofs.Lists.{has_none, has_cons, has_apart, lacks_parts}
 use Rattle.condition.proofs.Named.{numbers_app}
-use Rattle.evaluate.specs.Filling.{Filling, fill_cell, holds}
+use Rattle.evaluate.specs.Filling.{Filling, holds}
 use Rattle.evaluate.proofs.Renaming.{holds_rename}
 use Rattle.list.specs.Lists.{Line, Row, fill_cells, filled, same_row, stands}
 use Rattle.list.proofs.Filling.{same_row_is}

@@ -1,18 +1,17 @@
 -- Laws of `Noted`: one more cell is noted.
-use Rattle.std.proofs.Common.{◌≡◌, ℕ, zero, suc, ◌+◌, ◌^◌, ◌<◌, ◌≤◌, Bool, true, false, ◌||◌, eqb, ◌≢◌, ◌⊎◌, List, [], ◌∷◌, ◌++◌, length, get_or, take, set, replicate, sym, refl, ap, ◌∙◌, inl, inr, ⊎_elim, arith, length-set, length-take}
+use Rattle.std.proofs.Common.{◌≡◌, ℕ, suc, ◌+◌, ◌^◌, ◌<◌, ◌≤◌, Bool, true, false, ◌||◌, eqb, ◌≢◌, List, [], ◌∷◌, ◌++◌, length, get_or, take, set, replicate, sym, refl, ap, ◌∙◌, inl, inr, ⊎_elim, arith, length-set, length-take}
 use lib.ListN.{length-replicate}
 use Rattle.std.proofs.lemmas.List.{get_or-replicate, get_or_past, get_or-set_same, get_or-set_other, get_or-take, take_more, take_more_set}
-use Rattle.std.proofs.lemmas.Bool.{both_ways, cases_lt, cases_eq, eqb-true, eq-eqb, ne_eqb, or_cases, or_left, or_right}
+use Rattle.std.proofs.lemmas.Bool.{both_ways, cases_lt, cases_eq, eqb-true, ne_eqb, or_cases}
 use Rattle.condition.specs.Cond.{Cell, known, gap, cells_of, numbers_in, gaps_in, has}
 use Rattle.condition.specs.Shapes.{cell_of, Named}
 use Rattle.condition.specs.Nodes.{decoded}
 use Rattle.condition.specs.declared.Cell as code
 use Rattle.condition.specs.declared.Node.{Node}
 use Rattle.condition.specs.declared.Node.TheVariants.{Always, Never, Equal, Not, Both, Either}
-use Rattle.condition.proofs.Lists.{has_none, has_cons, has_head, has_tail, has_app, has_left, has_right, has_at, has_apart}
+use Rattle.condition.proofs.Lists.{has_cons, has_head, has_tail, has_app, has_left, has_right, has_at, has_apart}
 use Rattle.decide.specs.Reaching.{own_cells, marked, marked_cells}
-use Rattle.decide.specs.Noting.{gap_noted, numbers_noted, Noted}
-use Rattle.decide.specs.declared.noting.Notes.{Notes}
+use Rattle.decide.specs.Noting.{Noted}
 
 pub has_take_more : (ns : List ℕ) (i n : ℕ) → i < length ns → has (take (i + 1) ns) n ≡ (has (take i ns) n || eqb (get_or ns i 0) n)
 unfolding has

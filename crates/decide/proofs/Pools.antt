@@ -1,22 +1,20 @@
 -- Numbers to try: the least ones that are not there yet, and what they suffice for.
-use Rattle.std.proofs.Common.{◌≡◌, ℕ, ◌+◌, ◌<◌, ◌≤◌, Bool, true, false, ◌≢◌, ◌⊎◌, List, [], length, get_or, take, set, is_some, Some, None, Option, sym, refl, ap, ◌∙◌, subst, inl, inr, ⊎_elim, arith, length-set, get_or-set_other, get_or-set_same}
+use Rattle.std.proofs.Common.{◌≡◌, ℕ, ◌+◌, ◌<◌, ◌≤◌, Bool, true, false, ◌≢◌, ◌⊎◌, List, length, get_or, take, set, is_some, Some, None, Option, sym, refl, ap, ◌∙◌, subst, inl, inr, ⊎_elim, arith, length-set, get_or-set_other, get_or-set_same}
 use lib.Seq.{take-set-le}
 use Rattle.std.proofs.lemmas.Bool.{both_ways, cases_Bool, cases_lt, cases_eq, le-ltb}
 use Rattle.condition.specs.Cond.{Cond, numbers, gaps, has, Within}
-use Rattle.evaluate.specs.Filling as fillings
-use Rattle.evaluate.specs.Filling.{holds, Fresh}
+use Rattle.evaluate.specs.Filling.{Fresh}
 use Rattle.evaluate.specs.Shapes.{numbers_of}
 use Rattle.evaluate.specs.declared.Filling.{Filling}
 use Rattle.evaluate.proofs.Freshness.{fresh_small}
 use Rattle.evaluate.proofs.Holding.{own_gaps}
-use Rattle.decide.specs.Rows.{name, place, Placed, Listed, on_of, filling_of, blank}
+use Rattle.decide.specs.Rows.{place, Listed, on_of, filling_of}
 use Rattle.decide.specs.Lanes.{goal_of}
 use Rattle.decide.specs.Search.{Pool, SetUp, Sound, DeadFrom}
-use Rattle.decide.specs.Trying.{Tried, Names, LeastOther, FilledRow}
+use Rattle.decide.specs.Trying.{Tried, LeastOther, FilledRow}
 use Rattle.decide.specs.declared.gaps.Gaps.{Gaps}
 use Rattle.decide.specs.declared.rows.Row.{Row}
 use Rattle.decide.specs.declared.task.Task.{Task}
-use Rattle.decide.specs.declared.task.Goal.{Goal}
 use Rattle.decide.proofs.Gathering.{found_at, front_has, same_gaps}
 
 pub lacks_all : (xs : List ℕ) (n : ℕ) → ((j : ℕ) → j < length xs → get_or xs j 0 ≡ n → ⊥) → has xs n ≡ false

@@ -1,7 +1,7 @@
 -- Marking what conditions reach: what is marked, and the cells that stand there.
 use Rattle.std.proofs.Common.{◌≡◌, ℕ, zero, suc, ◌+◌, ◌<◌, ◌≤◌, Bool, true, false, cond as if, ◌&&◌, ◌||◌, eqb, ltb, ◌⊎◌, List, [], ◌∷◌, ◌++◌, sym, refl, ap, ◌∙◌, subst, inl, inr, ⊎_elim, arith}
 use Rattle.std.proofs.lemmas.Bool.{both_ways, cases_lt, cases_eq, ltb-true, lt-ltb, le-ltb, eqb-true, and_parts, and_from, or_cases, or_left, or_right}
-use Rattle.condition.specs.Cond.{Cell, Cond, never, cells_of, numbers_in, gaps_in, has}
+use Rattle.condition.specs.Cond.{Cond, cells_of, numbers_in, gaps_in, has}
 use Rattle.condition.specs.Store.{count, earlier, cond_at}
 use Rattle.condition.specs.Shapes.{node_of}
 use Rattle.condition.specs.Nodes.{decoded}

@@ -1,11 +1,11 @@
 -- Laws of `Rising`: one number more is passed over or listed.
-use Rattle.std.proofs.Common.{◌≡◌, ℕ, ◌+◌, ◌<◌, ◌≤◌, Bool, true, false, ◌≢◌, ◌⊎◌, List, [], ◌∷◌, ◌++◌, length, get_or, take, set, replicate, sym, refl, ap, ◌∙◌, inl, inr, arith, length-set}
+use Rattle.std.proofs.Common.{◌≡◌, ℕ, ◌+◌, ◌<◌, Bool, true, false, ◌≢◌, List, [], ◌∷◌, length, get_or, take, set, replicate, sym, ap, ◌∙◌, inl, inr, arith, length-set}
 use lib.ListN.{length-replicate}
 use Rattle.std.proofs.lemmas.List.{get_or-set_same, get_or-set_other, take_more_set}
 use Rattle.std.proofs.lemmas.Bool.{both_ways, cases_lt, cases_eq}
 use Rattle.condition.specs.Cond.{has}
 use Rattle.condition.proofs.Lists.{has_head, has_left, has_right}
-use Rattle.decide.specs.Counting.{counted, Rising}
+use Rattle.decide.specs.Counting.{Rising}
 use Rattle.decide.proofs.Counted.{counted_zero, counted_yes, counted_no}
 
 pub rising_none : (p : ℕ → Bool) → Rising p 0 (replicate 6 0) 0

@@ -1,14 +1,13 @@
 -- How a row stands, from whether some filling shows it and some lacks it.
-use Rattle.std.proofs.Common.{◌≡◌, ℕ, ◌+◌, ◌^◌, ◌<◌, ◌≤◌, Bool, true, false, not, ◌&&◌, ◌||◌, ◌⊎◌, ◌↔◌, List, ◌++◌, length, sym, refl, ap, ◌∙◌, inl, inr, ⊎_elim}
+use Rattle.std.proofs.Common.{◌≡◌, ℕ, ◌+◌, ◌^◌, ◌<◌, ◌≤◌, Bool, true, false, not, ◌||◌, ◌↔◌, List, length, sym, refl, ◌∙◌, ⊎_elim}
 use Rattle.std.proofs.lemmas.Bool.{both_ways, cases_Bool, and_parts, and_from, not-true, not_from_false, or_cases, or_left, or_right}
 use Rattle.condition.specs.Cond.{Cond, both, not_so, cells_of, numbers, gaps, has, Within}
 use Rattle.evaluate.specs.Filling.{Filling, holds, Below}
 use Rattle.evaluate.proofs.Bounded.{within_64_bits}
 use Rattle.evaluate.proofs.Holding.{holds_both, holds_not}
 use Rattle.list.specs.Lists.{Line, Row, all_filled, stands}
-use Rattle.query.specs.Ask.{Query, ask}
-use Rattle.answer.specs.Promise.{Answers, Sure, Possible}
-use Rattle.decide.specs.Deciding.{shows, deciding, SureBelow, PossibleBelow}
+use Rattle.query.specs.Ask.{ask}
+use Rattle.decide.specs.Deciding.{shows, deciding}
 use Rattle.decide.specs.Standing.{standing, is_sure, is_possible, something_fits, Decided}
 use Rattle.decide.proofs.Shown.{never_lacks, no_sure, both_fits, fits_both, deciding_enough}
 

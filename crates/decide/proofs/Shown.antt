@@ -1,14 +1,14 @@
 -- The one condition for a row: it holds exactly where the row stands.
-use Rattle.std.proofs.Common.{◌≡◌, ℕ, ◌+◌, ◌^◌, ◌<◌, ◌≤◌, Bool, true, false, cond as if, not, ◌&&◌, ◌||◌, eqb, List, [], ◌∷◌, ◌++◌, length, sym, refl, ap, ◌∙◌, ⊎_elim, arith}
+use Rattle.std.proofs.Common.{◌≡◌, ◌^◌, Bool, true, false, cond as if, not, ◌&&◌, ◌||◌, eqb, List, [], ◌∷◌, sym, refl, ◌∙◌, ⊎_elim, arith}
 use Rattle.std.proofs.lemmas.Bool.{and_parts, and_from, and_left, and_right, and_cases}
-use Rattle.condition.specs.Cond.{Cell, known, gap, Cond, both, not_so, cells_of, numbers, gaps, has, Within}
+use Rattle.condition.specs.Cond.{Cell, known, gap, Cond, both, not_so, cells_of}
 use Rattle.condition.proofs.Lists.{eqb_sym}
 use Rattle.evaluate.specs.Filling.{Filling, fill_cell, holds, Below}
 use Rattle.evaluate.proofs.Bounded.{within_64_bits}
 use Rattle.list.specs.Lists.{Line, Row, fill_cells, filled, all_filled, same_row, stands}
 use Rattle.query.specs.Ask.{Query, ask}
-use Rattle.answer.specs.Promise.{Answers, Sure, Possible}
-use Rattle.decide.specs.Deciding.{gives, shows, agrees, deciding, ByCondition, DecidingEnough, SureBelow, PossibleBelow, DecidedWithin64Bits}
+use Rattle.answer.specs.Promise.{Answers, Sure}
+use Rattle.decide.specs.Deciding.{gives, shows, agrees, deciding, ByCondition, DecidingEnough, DecidedWithin64Bits}
 
 holds_gives : (v : Filling) (cs : List Cell) (r : Row) → holds v (gives cs r) ≡ same_row r (fill_cells v cs)
 unfolding holds gives same_row fill_cells

@@ -1,5 +1,5 @@
 -- One gap more: the numbers that are named or in use and one other suffice, since any two others can change places.
-use Rattle.std.proofs.Common.{◌≡◌, ℕ, ◌<◌, ◌≤◌, Bool, true, false, cond as if, ◌||◌, eqb, ◌⊎◌, List, [], ◌∷◌, sym, refl, ap, ◌∙◌, subst, inl, inr, arith}
+use Rattle.std.proofs.Common.{◌≡◌, ℕ, ◌<◌, ◌≤◌, Bool, true, false, cond as if, ◌||◌, eqb, ◌⊎◌, List, sym, refl, ap, ◌∙◌, inl, inr, arith}
 use Rattle.std.proofs.lemmas.Bool.{both_ways, eqb-true, ne_eqb, cases_lt, cases_eq}
 use Rattle.condition.specs.Cond.{Cond, numbers, has, Within}
 use Rattle.condition.proofs.Lists.{eqb_self, has_apart}

@@ -1,13 +1,13 @@
 -- What was marked and noted is what decides the row.
-use Rattle.std.proofs.Common.{◌≡◌, ℕ, ◌<◌, ◌≤◌, Bool, true, false, cond as if, ◌&&◌, eqb, ◌≢◌, ◌⊎◌, List, [], ◌∷◌, ◌++◌, map, length, get_or, set, sym, refl, ap, ◌∙◌, inl, inr, ⊎_elim, arith}
+use Rattle.std.proofs.Common.{◌≡◌, ℕ, ◌<◌, ◌≤◌, Bool, true, false, cond as if, eqb, ◌≢◌, ◌⊎◌, List, [], ◌∷◌, ◌++◌, map, length, get_or, set, sym, refl, ap, ◌∙◌, inl, inr, ⊎_elim, arith}
 use Rattle.std.proofs.lemmas.List.{get_or-set_same, get_or-set_other}
 use Rattle.std.proofs.lemmas.Bool.{both_ways, cases_eq, eqb-true, and_parts, or_cases}
-use Rattle.condition.specs.Cond.{Cell, known, gap, Cond, cells_of, numbers_in, gaps_in, has, Within}
+use Rattle.condition.specs.Cond.{Cell, known, gap, cells_of, numbers_in, gaps_in, has, Within}
 use Rattle.condition.specs.Store.{count, cond_at}
 use Rattle.condition.proofs.Lists.{has_none, has_cons, has_head, has_tail, has_app, has_left, has_right}
 use Rattle.condition.proofs.Named.{numbers_app}
 use Rattle.list.specs.Lists.{Line, Row}
-use Rattle.decide.specs.Deciding.{agrees_cell, agrees, deciding, cells_in_lines, conds_in_lines}
+use Rattle.decide.specs.Deciding.{agrees, deciding, cells_in_lines, conds_in_lines}
 use Rattle.decide.specs.Reaching.{marked, Closed, marked_cells, Covers, AllCovered}
 use Rattle.decide.specs.Noting.{Noted}
 use Rattle.decide.specs.Matching.{Matched}

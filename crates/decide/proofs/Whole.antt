@@ -1,5 +1,5 @@
 -- Lines that lie whole in a slice, and what is told of an answer.
-use Rattle.std.proofs.Common.{◌≡◌, ℕ, ◌+◌, ◌*◌, ◌/◌, ◌<◌, ◌≤◌, min, Bool, true, false, leb, List, length, IfErr, Some, None, Ok, Err, Result, sym, refl, ap, ◌∙◌, inl, inr, mul-le-mul_right, div-lt_iff_lt-mul, div-mul-le_self, arith, MatchResult}
+use Rattle.std.proofs.Common.{◌≡◌, ℕ, ◌*◌, ◌/◌, ◌<◌, ◌≤◌, min, true, leb, List, length, IfErr, Some, None, Ok, Err, Result, sym, refl, ap, ◌∙◌, inl, inr, mul-le-mul_right, div-lt_iff_lt-mul, div-mul-le_self, arith, MatchResult}
 use native.Mathlib.Nat.{div-eq_of_lt, min-zero, min-eq_left, min-le_right}
 use Rattle.std.proofs.lemmas.Bool.{cases_lt, le-leb, lt-leb, eq-eqb}
 use Rattle.condition.specs.Refusals.{Told, told, first, unless}

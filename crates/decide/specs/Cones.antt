@@ -2,7 +2,7 @@
 --
 --   Coned what ls row cone goal    the cone has what is known and the condition for a row at the goal's places, and these name no
 --                                  other gaps and numbers than what decides the row
-use Rattle.std.specs.Prelude.{◌≡◌, ℕ, ◌+◌, ◌*◌, ◌<◌, ◌≤◌, List, length}
+use Rattle.std.specs.Prelude.{◌≡◌, ℕ, ◌+◌, ◌*◌, ◌≤◌, List, length}
 use Rattle.condition.specs.Cond.{Cond, cells_of}
 use Rattle.condition.specs.Store.{count, cond_at}
 use Rattle.evaluate.specs.Filling.{Filling, holds}

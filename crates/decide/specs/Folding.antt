@@ -15,20 +15,18 @@
 --   renamed f n              the node n with f applied to the places that it names
 --   DrawsAll ..             the cells of each marked comparison have numbers of ns and gaps of gs alone
 --   Folds nodes n marks xs ys ps   ys is the cone xs with the marked of the first n nodes folded into it, at the places ps
-use Rattle.std.specs.Prelude.{◌≡◌, ℕ, zero, suc, ◌+◌, ◌*◌, ◌<◌, ◌≤◌, Bool, true, false, cond as if, List, [], ◌∷◌, length, nat_lt, slice_index, slice_index_or}
-use Rattle.condition.specs.Cond.{always, never, cells_of, numbers_in, gaps_in, Within}
-use Rattle.condition.specs.Cond as conditions
+use Rattle.std.specs.Prelude.{◌≡◌, ℕ, ◌+◌, ◌*◌, ◌<◌, ◌≤◌, Bool, true, false, cond as if, List, [], ◌∷◌, length, nat_lt, slice_index, slice_index_or}
+use Rattle.condition.specs.Cond.{always, never, cells_of}
 use Rattle.condition.specs.Store.{count, cond_at, Grown}
 use Rattle.condition.specs.Shapes.{cell_of, Named}
 use Rattle.condition.specs.Nodes.{decoded}
-use Rattle.condition.specs.declared.Cell.{Cell}
 use Rattle.condition.specs.declared.Cell.TheVariants.{Number, Gap}
 use Rattle.condition.specs.declared.Node.{Node}
 use Rattle.condition.specs.declared.Node.TheVariants.{Always, Never, Equal, Not, Both, Either}
 use Rattle.evaluate.specs.Filling.{Filling, holds}
 use Rattle.evaluate.specs.Values.{value_of}
 use Rattle.decide.specs.Counting.{counted}
-use Rattle.decide.specs.Reaching.{EachPlace, marked, Covers}
+use Rattle.decide.specs.Reaching.{marked, Covers}
 use Rattle.decide.specs.declared.simplifying.Simple.{Simple}
 use Rattle.decide.specs.declared.simplifying.Simple.TheVariants.{Place, New}
 

@@ -9,7 +9,7 @@
 --   might_of on v n bs t         whether a node might be t, where bs says so of those at other places
 --   Worked g depth rows ns n rs  rs says what the first n nodes of the store ns might be, in each lane
 --   goal_of ns goal t            what is known with what is shown, or for false with its contrary
-use Rattle.std.specs.Prelude.{◌≡◌, ℕ, ◌+◌, ◌*◌, ◌/◌, ◌%◌, ◌<◌, ◌≤◌, Bool, true, false, cond as if, not, List, [], length, take, ◌==◌, nat_lt, slice_index, slice_index_or}
+use Rattle.std.specs.Prelude.{◌≡◌, ℕ, ◌*◌, ◌/◌, ◌%◌, ◌<◌, ◌≤◌, Bool, true, false, cond as if, not, List, [], length, take, ◌==◌, nat_lt, slice_index, slice_index_or}
 use Rattle.condition.specs.Cond.{Cond, both, not_so}
 use Rattle.condition.specs.Store.{cond_at}
 use Rattle.condition.specs.Shapes.{cell_of}

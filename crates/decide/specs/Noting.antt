@@ -3,7 +3,7 @@
 --   gap_noted s k        whether the gap k was noted
 --   numbers_noted s      the numbers that were noted
 --   Noted cs s           s has noted the cells cs: all their gaps, and their numbers up to the ninth, each once
-use Rattle.std.specs.Prelude.{◌≡◌, ℕ, ◌^◌, ◌<◌, ◌≤◌, Bool, true, false, List, length, take, ◌≢◌, slice_index, slice_index_or}
+use Rattle.std.specs.Prelude.{◌≡◌, ℕ, ◌^◌, ◌<◌, Bool, true, false, List, length, take, ◌≢◌, slice_index, slice_index_or}
 use Rattle.condition.specs.Cond.{Cell, numbers_in, gaps_in, has}
 use Rattle.decide.specs.declared.noting.Notes.{Notes}
 

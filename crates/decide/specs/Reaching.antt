@@ -8,7 +8,7 @@
 --   marked_cells nodes ms n   the cells that the marked ones of the first n nodes compare
 --   Covers ns gs cs           the numbers in the cells cs are among ns, and the gaps among gs
 use Rattle.std.specs.Prelude.{◌≡◌, ℕ, zero, suc, ◌<◌, Bool, true, false, cond as if, List, [], ◌∷◌, ◌++◌, slice_index_or}
-use Rattle.condition.specs.Cond.{Cell, Cond, never, cells_of, numbers_in, gaps_in, Within}
+use Rattle.condition.specs.Cond.{Cell, never, cells_of, numbers_in, gaps_in, Within}
 use Rattle.condition.specs.Store.{cond_at}
 use Rattle.condition.specs.Shapes.{node_of}
 use Rattle.condition.specs.Nodes.{decoded}

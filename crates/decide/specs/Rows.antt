@@ -8,7 +8,7 @@
 --   number_at r p         the number that a row has at place p
 --   filling_of g r        the filling that a row stands for; a gap that is not tried has 0
 --   row g rows l          that of the row at l
-use Rattle.std.specs.Prelude.{◌≡◌, ℕ, ◌<◌, ◌≤◌, Bool, true, List, [], nat_lt, slice_index, slice_index_or}
+use Rattle.std.specs.Prelude.{◌≡◌, ℕ, ◌<◌, ◌≤◌, Bool, List, [], nat_lt, slice_index, slice_index_or}
 use Rattle.evaluate.specs.Filling.{Filling}
 use Rattle.decide.specs.declared.gaps.Gaps.{Gaps}
 use Rattle.decide.specs.declared.rows.Row.{Row}

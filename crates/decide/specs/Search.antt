@@ -16,7 +16,7 @@ use Rattle.evaluate.specs.Filling.{holds}
 use Rattle.decide.specs.Bit.{lane}
 use Rattle.decide.specs.Might.{Dead}
 use Rattle.decide.specs.Rows.{place, Placed, on_of, number_at, filling_of, blank, row}
-use Rattle.decide.specs.Lanes.{rail, goal_of}
+use Rattle.decide.specs.Lanes.{goal_of}
 use Rattle.decide.specs.declared.rows.Row.{Row}
 use Rattle.decide.specs.declared.words.Word.{Word}
 use Rattle.decide.specs.declared.lanes.Rails.{Rails}

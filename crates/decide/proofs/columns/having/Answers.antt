@@ -1,4 +1,4 @@
-use Rattle.std.proofs.Common.{◌≡◌, ℕ, Bool, eqb, get_or, sym, ap, ◌∙◌}
+use Rattle.std.proofs.Common.{ℕ, Bool, eqb, get_or, sym, ap, ◌∙◌}
 use Rattle.std.proofs.lemmas.Bool.{eq-eqb, ne_eqb}
 use Rattle.decide.specs.Bit.{lane}
 use Rattle.decide.specs.Rows.{number_at, blank}

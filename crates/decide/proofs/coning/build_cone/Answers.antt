@@ -1,4 +1,4 @@
-use Rattle.std.proofs.Common.{◌≡◌, ◌++◌, length, take, drop, sym, ap, ◌∙◌, rules}
+use Rattle.std.proofs.Common.{◌≡◌, ◌++◌, length, take, drop, rules}
 use Rattle.std.proofs.lemmas.List.{take_at}
 use Rattle.decide.proofs.coning.build_cone.Goals as goal
 

@@ -1,4 +1,4 @@
-use Rattle.std.proofs.Common.{◌≡◌, ◌<◌, length, get_or, ap, ◌∙◌, arith}
+use Rattle.std.proofs.Common.{◌<◌, length, get_or, ap, ◌∙◌, arith}
 use Rattle.condition.specs.Store.{count, cond_at}
 use Rattle.condition.proofs.Growing.{grown_cond}
 use Rattle.evaluate.specs.Filling.{holds}

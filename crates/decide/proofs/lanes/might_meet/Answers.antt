@@ -1,8 +1,5 @@
-use Rattle.std.proofs.Common.{◌≡◌, Bool, true, false, ◌∙◌, arith}
+use Rattle.std.proofs.Common.{true, false, arith}
 use Rattle.decide.specs.Bit.{lane}
-use Rattle.decide.specs.Lanes.{rail, goal_of}
-use Rattle.decide.specs.Might.{might}
-use Rattle.decide.specs.Rows.{on_of, row}
 use Rattle.decide.proofs.Values.{goal_right}
 use Rattle.decide.proofs.lanes.might_meet.Goals as goal
 

@@ -1,6 +1,5 @@
-use Rattle.std.proofs.Common.{◌≡◌, ℕ, ◌+◌, ◌-◌, ◌*◌, ◌<◌, ◌≤◌, List, [], ◌∷◌, length, get_or, take, drop, sym, refl, ap, ◌∙◌, arith}
-use Rattle.std.proofs.lemmas.List.{take_rest, drop-drop, get_or-drop}
-use Rattle.std.proofs.lemmas.Bool.{ltb-true}
+use Rattle.std.proofs.Common.{◌≡◌, ◌+◌, ◌-◌, ◌*◌, length, get_or, drop, sym, refl, ◌∙◌, arith}
+use Rattle.std.proofs.lemmas.List.{take_rest, drop-drop}
 use Rattle.list.specs.Layout.{line_size, lines_in, cells_in}
 use Rattle.list.proofs.Stepping.{line_within, part_long}
 use Rattle.list.proofs.Reading.{line_named, lines_fit_at}

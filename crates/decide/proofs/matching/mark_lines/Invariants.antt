@@ -1,4 +1,4 @@
-use Rattle.std.proofs.Common.{◌≡◌, length, drop}
+use Rattle.std.proofs.Common.{length, drop}
 use Rattle.list.specs.Layout.{lines_in}
 use Rattle.decide.specs.Matching.{LinesMarked, Matched}
 use Rattle.decide.proofs.matching.mark_lines.Given as goal

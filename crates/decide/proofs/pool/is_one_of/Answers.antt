@@ -1,4 +1,4 @@
-use Rattle.std.proofs.Common.{◌≡◌, sym, ap, ◌∙◌, arith}
+use Rattle.std.proofs.Common.{sym, ap, ◌∙◌, arith}
 use Rattle.condition.specs.Cond.{has}
 use Rattle.condition.proofs.Lists.{has_at}
 use Rattle.decide.proofs.Pools.{lacks_all}

@@ -1,4 +1,4 @@
-use Rattle.std.proofs.Common.{◌≡◌, ltb, [], ◌∷◌, refl, ap, inl, inr}
+use Rattle.std.proofs.Common.{◌≡◌, ltb, [], ◌∷◌, refl, inl, inr}
 use Rattle.decide.specs.Reaching.{marked, places_of}
 use Rattle.decide.proofs.Reached.{named_none, named_one, named_two}
 use Rattle.decide.proofs.reaching.mark_named.Goals as goal

@@ -1,4 +1,4 @@
-use Rattle.std.proofs.Common.{◌≡◌, length, get_or, sym, ◌∙◌, arith, rules}
+use Rattle.std.proofs.Common.{get_or, sym, arith, rules}
 use Rattle.condition.specs.Refusals.{told}
 use Rattle.condition.specs.Store.{cond_at}
 use Rattle.decide.specs.Showing.{deciding_in}

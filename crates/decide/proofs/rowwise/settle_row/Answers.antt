@@ -1,4 +1,4 @@
-use Rattle.std.proofs.Common.{◌≡◌, ◌+◌, ◌*◌, ◌≤◌, true, length, get_or, vec_items, sym, ◌∙◌, arith, rules}
+use Rattle.std.proofs.Common.{◌≡◌, length, get_or, vec_items, arith}
 use borrow.Author.Rules.{get_or_read}
 use Rattle.condition.specs.Store.{count, cond_at}
 use Rattle.list.specs.Layout.{lines_in}

@@ -1,9 +1,5 @@
-use Rattle.std.proofs.Common.{◌≡◌, ℕ, ◌+◌, ◌*◌, ◌<◌, ◌≤◌, Bool, true, false, length, get_or, take, sym, ◌∙◌, subst, arith}
-use Rattle.std.proofs.lemmas.List.{length-take-le}
-use Rattle.decide.specs.Rows.{blank}
-use Rattle.decide.proofs.Gathering.{Gathered, at_leaves, lent_begun, emptied, all_emptied, passed, one_more}
-use Rattle.decide.specs.declared.rows.Row.{Row}
-use Rattle.decide.specs.declared.search.Met.{Met}
+use Rattle.std.proofs.Common.{◌≡◌, ◌<◌, ◌≤◌, length, sym, ◌∙◌, arith}
+use Rattle.decide.proofs.Gathering.{Gathered, at_leaves, emptied, all_emptied, passed, one_more}
 use Rattle.decide.proofs.search.+search.Goals as goal
 use Rattle.decide.proofs.search.+search.Goals.{then-count-gt242, else-count-gt242, then-wants, else-wants}
 
@@ -11,32 +7,6 @@ pub returns-then-depth-task : goal.returns-then-depth-task
 returns-then-depth-task t c =
     at_leaves c.args.cone.now c.args.task.now c.requires.task (omega arith) c.args.depth (omega arith) c.args.rows.now c.might_meet-lanes.result c.args.met c.or_first.result
     c.might_meet-lanes.ensures c.requires.sound c.or_first.ensures
-
-pub search-met-requires : goal.search-met-requires
-search-met-requires t c =
-    let few : c.loop-l.count ≤ length c.loop-l.next = omega arith in
-    let deep : c.args.depth < c.args.task.now.gaps.count = omega arith in (
-      omega (arith, c.decreases),
-      (
-        omega arith,
-        (
-          omega arith,
-          (
-            omega (arith, length-take-le c.loop-l.count c.loop-l.next few),
-            (
-              omega arith,
-              (
-                c.requires.task,
-                (
-                  lent_begun c.args.cone.now c.args.task.now c.requires.task (omega arith) c.args.depth deep c.loop-l.next c.loop-l.count few c.loop-l.invariant.begun,
-                  c.loop-l.invariant.sound,
-                ),
-              ),
-            ),
-          ),
-        ),
-      ),
-    )
 
 pub offset_bounds-rows-l : goal.offset_bounds-rows-l
 offset_bounds-rows-l t c = omega (arith, c.requires.few, c.loop-l-test.true)
@@ -61,32 +31,6 @@ loop-l-preserved t c =
           rw (w.count-is, w.next-is) (passed nodes task c.requires.task long depth deep rows c.args.met l next c.if-count-gt242.count c.if-count-gt242.met ready
           c.might_meet-lanes.result (c.might_meet-lanes.ensures l (omega arith)) (sym c.wants.ensures ∙ w.if-wants.false))
     ]
-
-pub search-requires : goal.search-requires
-search-requires t c =
-    let few : c.loop-l.count ≤ length c.loop-l.next = omega arith in
-    let deep : c.args.depth < c.args.task.now.gaps.count = omega arith in (
-      omega (arith, c.decreases),
-      (
-        omega arith,
-        (
-          omega arith,
-          (
-            omega (arith, length-take-le c.loop-l.count c.loop-l.next few),
-            (
-              omega arith,
-              (
-                c.requires.task,
-                (
-                  lent_begun c.args.cone.now c.args.task.now c.requires.task (omega arith) c.args.depth deep c.loop-l.next c.loop-l.count few c.loop-l.invariant.begun,
-                  c.loop-l.invariant.sound,
-                ),
-              ),
-            ),
-          ),
-        ),
-      ),
-    )
 
 pub returns : goal.returns
 returns t c =

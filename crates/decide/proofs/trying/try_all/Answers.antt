@@ -1,4 +1,4 @@
-use Rattle.std.proofs.Common.{◌≡◌, true, false, List, [], ◌∷◌, subst, arith}
+use Rattle.std.proofs.Common.{true, false, [], ◌∷◌, subst, arith}
 use Rattle.decide.specs.Lanes.{goal_of}
 use Rattle.decide.specs.Trying.{Tried}
 use Rattle.decide.specs.declared.task.Goal.{Goal}

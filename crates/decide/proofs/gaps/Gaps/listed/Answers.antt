@@ -1,5 +1,4 @@
-use Rattle.std.proofs.Common.{ℕ, length, replicate, refl, subst, arith}
-use Rattle.decide.specs.Rows.{Listed}
+use Rattle.std.proofs.Common.{replicate, refl, arith}
 use Rattle.decide.proofs.Listing.{none_listed, same_number}
 use Rattle.decide.proofs.gaps.Gaps.listed.Goals as goal
 

@@ -1,6 +1,5 @@
-use Rattle.std.proofs.Common.{◌≡◌, ◌<◌, ◌≤◌, sym, arith}
+use Rattle.std.proofs.Common.{arith}
 use Rattle.std.proofs.lemmas.List.{get_or_default}
-use Rattle.decide.specs.Rows.{place}
 use Rattle.decide.proofs.Listing.{listed_still, listed_more}
 use Rattle.decide.proofs.gaps.Gaps.with.Goals as goal
 

@@ -1,4 +1,4 @@
-use Rattle.std.proofs.Common.{sym, ◌∙◌, arith}
+use Rattle.std.proofs.Common.{sym, arith}
 use Rattle.decide.specs.Noting.{gap_noted}
 use Rattle.decide.proofs.Counted.{counted_zero, counted_yes, counted_no, counted_few}
 use Rattle.decide.proofs.noting.Notes.count_gaps.Goals as goal

@@ -1,5 +1,5 @@
-use Rattle.std.proofs.Common.{◌≡◌, ◌<◌, length, take, sym, refl, ap, ◌∙◌, arith}
-use Rattle.std.proofs.lemmas.Bool.{or_from, or_right, eq-eqb, ne_eqb}
+use Rattle.std.proofs.Common.{◌≡◌, take, sym, refl, ap, ◌∙◌, arith}
+use Rattle.std.proofs.lemmas.Bool.{or_from, ne_eqb}
 use Rattle.condition.specs.Cond.{has}
 use Rattle.decide.proofs.Noted.{has_take_more, has_in_take}
 use Rattle.decide.proofs.noting.Notes.has_number.Goals as goal

@@ -1,4 +1,4 @@
-use Rattle.std.proofs.Common.{◌≡◌, ◌<◌, sym, ◌∙◌, arith}
+use Rattle.std.proofs.Common.{sym, ◌∙◌, arith}
 use Rattle.std.proofs.lemmas.Bool.{ltb-true}
 use Rattle.decide.proofs.Noted.{noted_gap, noted_number, noted_again}
 use Rattle.decide.proofs.noting.Notes.note.Goals as goal

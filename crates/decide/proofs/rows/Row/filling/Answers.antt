@@ -1,4 +1,4 @@
-use Rattle.std.proofs.Common.{◌≡◌, ℕ, ◌+◌, ◌<◌, ap, ◌∙◌, arith}
+use Rattle.std.proofs.Common.{ap, ◌∙◌, arith}
 use Rattle.evaluate.specs.Shapes.{numbers_of}
 use Rattle.evaluate.specs.declared.Filling.{Filling}
 use Rattle.decide.specs.Rows.{filling_of}

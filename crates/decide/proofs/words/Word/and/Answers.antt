@@ -1,4 +1,4 @@
-use Rattle.std.proofs.Common.{◌/◌, ◌%◌, arith}
+use Rattle.std.proofs.Common.{◌/◌, ◌%◌}
 use Rattle.decide.specs.Bit.{lane}
 use Rattle.decide.proofs.Fours.{place, and_four}
 use Rattle.decide.proofs.words.Word.and.Goals as goal

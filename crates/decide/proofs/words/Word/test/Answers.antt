@@ -1,6 +1,4 @@
-use Rattle.std.proofs.Common.{◌/◌, ◌%◌, arith}
 use Rattle.decide.specs.Bit.{lane}
-use Rattle.decide.proofs.Fours.{place}
 use Rattle.decide.proofs.words.Word.test.Goals as goal
 
 pub returns : goal.returns

@@ -1,4 +1,4 @@
-use Rattle.std.proofs.Common.{◌/◌, ◌%◌, arith}
+use Rattle.std.proofs.Common.{arith}
 use Rattle.decide.specs.Bit.{lane}
 use Rattle.decide.proofs.Fours.{place, with_four}
 use Rattle.decide.proofs.words.Word.with.Goals as goal
