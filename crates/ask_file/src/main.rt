@@ -2,8 +2,8 @@
 #![tactic(auto)]
 
 use answer::{Reply, ask};
-use file_bytes::{Input, read_lists, read_nodes};
 use condition::{Condition, Refusal, cell_at};
+use file_bytes::{Input, read_lists, read_nodes};
 use list::check;
 use query::Question;
 use std::alloc::{AllocError, Global};

@@ -2,13 +2,13 @@
 use Rattle.std.proofs.Common.{◌≡◌, ℕ, Bool, true, false, cond as if, eqb, List, [], ◌∷◌, sym, refl, ap, ◌∙◌}
 use Rattle.std.proofs.lemmas.Bool.{eqb-true}
 use Rattle.condition.specs.Cond.{Cell, known, gap}
-use Rattle.evaluate.specs.Filling.{Filling, fill_cell, holds}
+use Rattle.evaluate.specs.Filling.{Filling, fill_cell}
 use Rattle.evaluate.proofs.Holding.{holds_each}
 use Rattle.list.specs.Lists.{Line, fill_cells, filled, all_filled, stands}
 use Rattle.query.specs.Ask.{ask}
 use Rattle.answer.specs.Answer.{answer}
 use Rattle.answer.proofs.Right.{answer_filled}
-use Rattle.learn.specs.Learning.{write_cell, write_cells, write_cond, write_lines, write_lists, WrittenOver}
+use Rattle.learn.specs.Learning.{write_cell, write_cells, write_lines, write_lists, WrittenOver}
 
 module _ (v : Filling) (k n : ℕ) (is : v k ≡ n) where
   fill_write : (c : Cell) → fill_cell v (write_cell k n c) ≡ fill_cell v c

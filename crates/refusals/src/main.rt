@@ -2,9 +2,9 @@
 #![tactic(auto)]
 
 use answer::{Reply, ask};
-use file_bytes::{Input, read_lists, read_nodes};
 use condition::{Cell, Condition, Node, Refusal, append, find, read_node, room, store_count};
 use evaluate::{Filling, holds_at};
+use file_bytes::{Input, read_lists, read_nodes};
 use list::{check, check_lists};
 use query::Question;
 use std::alloc::Global;
