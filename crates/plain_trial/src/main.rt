@@ -70,7 +70,7 @@ fn run(rt: &HostRuntime) -> anyhow::Result<()> {
 
 fn set(heap: Global, book: Book) -> Result<Setting, AllocError> {
     let mut names = book_names(heap, &book)?;
-    names.gaps.sort();
+    names.gaps.sort()?;
     let conditions = nodes_names(heap, book.nodes.as_slice())?;
     let lists = named_lists(heap, book.lists.as_slice(), conditions.as_slice())?;
     let mut known = Names::none(heap);
@@ -177,7 +177,7 @@ fn candidates(
     else {
         return Err(Refusal::NothingFits);
     };
-    rows.sort();
+    rows.sort()?;
     rows.dedup();
     for row in rows.as_slice() {
         if !shares(row.as_slice(), pool.others.as_slice()) {

@@ -85,7 +85,7 @@ pub fn choices_in_order(
     known: &Names,
 ) -> Result<Vec<Choice>, AllocError> {
     let mut named = known.numbers.clone()?;
-    named.sort();
+    named.sort()?;
     let mut choices = Vec::new(heap);
     for (gap, own) in gaps.iter().zip(others) {
         let mut numbers = Vec::new(heap);

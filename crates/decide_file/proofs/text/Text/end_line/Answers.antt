@@ -1,4 +1,4 @@
-use Rattle.std.proofs.Common.{◌≡◌, length, get_or, ◌∙◌, arith}
+use Rattle.std.proofs.Common.{◌≡◌, get_or, ◌∙◌, arith}
 use Rattle.decide_file.proofs.Scanning.{scan_newline, rest_numbers, rest_long}
 use Rattle.decide_file.proofs.text.Text.end_line.Goals as goal
 

@@ -1,6 +1,5 @@
-use Rattle.std.proofs.Common.{Some, ◌∙◌}
+use Rattle.std.proofs.Common.{Some}
 use Rattle.std.proofs.lemmas.Slice.Eq.{strip_prefix_is}
-use Rattle.decide_file.specs.Numbers.{numbers}
 use Rattle.decide_file.proofs.Scanning.{scan_plain}
 use Rattle.decide_file.proofs.text.Text.named.Goals as goal
 use Rattle.std.proofs.lemmas.Bool.Decides.{Decides-eqb}

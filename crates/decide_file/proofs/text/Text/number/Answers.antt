@@ -1,5 +1,5 @@
-use Rattle.std.proofs.Common.{◌≡◌, ℕ, ◌+◌, ◌-◌, ◌*◌, List, ◌∷◌, length, get_or, drop, Some, sym, ap, ◌∙◌, arith}
-use Rattle.decide_file.specs.Numbers.{numbers, scan}
+use Rattle.std.proofs.Common.{◌≡◌, ℕ, ◌+◌, ◌-◌, ◌*◌, length, get_or, drop, Some, sym, ap, ◌∙◌, arith}
+use Rattle.decide_file.specs.Numbers.{scan}
 use Rattle.decide_file.proofs.Scanning.{scan_first, scan_more, scan_stop, scan_end, rest_numbers}
 use Rattle.decide_file.proofs.text.Text.number.Goals as goal
 

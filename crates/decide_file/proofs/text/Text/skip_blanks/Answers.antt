@@ -1,4 +1,4 @@
-use Rattle.std.proofs.Common.{◌≡◌, length, drop, sym, ap, ◌∙◌, arith}
+use Rattle.std.proofs.Common.{◌≡◌, length, drop, sym, ◌∙◌, arith}
 use Rattle.decide_file.specs.Numbers.{numbers}
 use Rattle.decide_file.proofs.Scanning.{scan_skip, rest_numbers, rest_long}
 use Rattle.decide_file.proofs.text.Text.skip_blanks.Goals as goal
