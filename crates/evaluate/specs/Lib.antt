@@ -1,4 +1,5 @@
 pub mod Filling
 pub mod Enough
 pub mod Shapes
+pub mod Senses
 pub mod Values

@@ -2,8 +2,7 @@
 --
 --   WorkedOut v nodes n bs    the first n values of bs are those of the first n nodes of a store
 --   value_of v n bs            the value of a node, where bs gives those at other places
---   before i bs j              the value of an earlier node than i, out of bs; false for others
-use Rattle.std.specs.Prelude.{◌≡◌, ℕ, ◌<◌, Bool, true, false, cond as if, not, ◌&&◌, ◌||◌, List, ◌==◌, nat_lt, slice_index_or}
+use Rattle.std.specs.Prelude.{◌≡◌, ℕ, ◌<◌, Bool, true, false, not, ◌&&◌, ◌||◌, List, ◌==◌, slice_index_or}
 use Rattle.condition.specs.Store.{cond_at}
 use Rattle.condition.specs.Shapes.{cell_of}
 use Rattle.condition.specs.declared.Node.{Node}
@@ -20,6 +19,3 @@ value_of v (Equal a b) bs = fill_cell v (cell_of a) == fill_cell v (cell_of b)
 value_of v (Not a) bs = not (bs a)
 value_of v (Both a b) bs = bs a && bs b
 value_of v (Either a b) bs = bs a || bs b
-
-abbrev pub before : ℕ → List Bool → ℕ → Bool
-before i bs j = if (nat_lt j i) (slice_index_or bs j false) false

@@ -9,9 +9,11 @@ ghost use Rattle.evaluate.specs.Enough.{OwnGaps, FewNumbers, FewOver, FewDecide,
 
 use condition::Cell;
 
+mod sense;
 mod values;
 
-pub use values::{holds_at, work_out};
+pub use sense::{Sense, work_out};
+pub use values::holds_at;
 
 // A number for each gap.
 #[derive(Clone, Copy)]
@@ -64,38 +66,26 @@ impl Filling {
 
 // Theorems about fillings and conditions: see specs/Enough.antt.
 
-pub fn own_gaps() -> u8
+pub fn own_gaps()
     ensures { OwnGaps }
-{
-    0
-}
+{}
 
-pub fn few_numbers() -> u8
+pub fn few_numbers()
     ensures { FewNumbers }
-{
-    0
-}
+{}
 
-pub fn few_over() -> u8
+pub fn few_over()
     ensures { FewOver }
-{
-    0
-}
+{}
 
-pub fn few_decide() -> u8
+pub fn few_decide()
     ensures { FewDecide }
-{
-    0
-}
+{}
 
-pub fn fresh_small() -> u8
+pub fn fresh_small()
     ensures { FreshSmall }
-{
-    0
-}
+{}
 
-pub fn within_64_bits() -> u8
+pub fn within_64_bits()
     ensures { Within64Bits }
-{
-    0
-}
+{}

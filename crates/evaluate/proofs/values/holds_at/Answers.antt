@@ -1,4 +1,4 @@
-use Rattle.std.proofs.Common.{◌<◌, length, drop, ◌∙◌, arith, rules}
+use Rattle.std.proofs.Common.{◌<◌, false, length, drop, ◌∙◌, arith, rules}
 use Rattle.evaluate.specs.Shapes.{numbers_of}
 use Rattle.evaluate.proofs.Worked.{past_right, read_back}
 use Rattle.evaluate.proofs.values.holds_at.Goals as goal
@@ -16,5 +16,5 @@ returns c =
     let k : i < length bs = search rules in
     record {
       refusal = search rules;
-      value = read_back bs (drop (length bs) c.in_ok-values.values.items) n i c.index.result.now l k c.index.ensures ∙ c.work_out.ensures.values i (omega arith);
+      value = read_back bs (drop (length bs) c.in_ok-values.values.items) n i c.index.result.now l k c.index.ensures ∙ c.work_out.ensures.values i (omega arith) false;
     }
