@@ -1,5 +1,5 @@
 -- One node added behind those that stand: the five numbers ys in place of what stood there, and the count one higher.
-use Rattle.std.proofs.Common.{◌≡◌, ℕ, zero, suc, ◌+◌, ◌-◌, ◌*◌, ◌<◌, ◌≤◌, ◌≢◌, List, [], ◌∷◌, ◌++◌, length, get_or, take, drop, set, sym, refl, ap, ◌∙◌, add-zero, arith, lit<, length-drop, length-take}
+use Rattle.std.proofs.Common.{◌≡◌, ℕ, suc, ◌+◌, ◌-◌, ◌*◌, ◌<◌, ◌≤◌, ◌≢◌, List, ◌++◌, length, get_or, take, drop, set, sym, refl, ap, ◌∙◌, add-zero, arith, lit<, length-drop, length-take}
 use borrow.Rule.Slice.PartMut.{put_mid}
 use Rattle.std.proofs.lemmas.List.{drop_all, append-nil, get_or_append_left, get_or-append_right, get_or-take, get_or-drop, get_or-set_same, get_or-set_other, length-append, length-set}
 use Rattle.condition.specs.Cond.{Cond}
@@ -28,28 +28,6 @@ Five n xs = (k : ℕ) → k < 5 → get_or xs k 0 ≡ get_or (five n) k 0
 
 five_node : (n : Node) (xs : List ℕ) → Five n xs → (go : ℕ → Cond) → node_of n go ≡ node (get_or xs 0 0) (get_or xs 1 0) (get_or xs 2 0) (get_or xs 3 0) (get_or xs 4 0) go
 five_node n xs h go = rw (h 0 (lit< tt), h 1 (lit< tt), h 2 (lit< tt), h 3 (lit< tt), h 4 (lit< tt)) (five_is n go)
-
--- a slice whose first five numbers were written
-abbrev pub overwritten : List ℕ → List ℕ → List ℕ
-overwritten xs fs = set (set (set (set (set xs 0 (get_or fs 0 0)) 1 (get_or fs 1 0)) 2 (get_or fs 2 0)) 3 (get_or fs 3 0)) 4 (get_or fs 4 0)
-
-pub overwritten_front : (xs fs : List ℕ) → 5 ≤ length xs → (k : ℕ) → k < 5 → get_or (overwritten xs fs) k 0 ≡ get_or fs k 0
-overwritten_front [] fs h k l = absurd (omega arith)
-overwritten_front (a ∷ []) fs h k l = absurd (omega arith)
-overwritten_front (a ∷ (b ∷ [])) fs h k l = absurd (omega arith)
-overwritten_front (a ∷ (b ∷ (c ∷ []))) fs h k l = absurd (omega arith)
-overwritten_front (a ∷ (b ∷ (c ∷ (d ∷ [])))) fs h k l = absurd (omega arith)
-overwritten_front (a ∷ (b ∷ (c ∷ (d ∷ (e ∷ xs))))) fs h zero l = refl
-overwritten_front (a ∷ (b ∷ (c ∷ (d ∷ (e ∷ xs))))) fs h (suc zero) l = refl
-overwritten_front (a ∷ (b ∷ (c ∷ (d ∷ (e ∷ xs))))) fs h (suc (suc zero)) l = refl
-overwritten_front (a ∷ (b ∷ (c ∷ (d ∷ (e ∷ xs))))) fs h (suc (suc (suc zero))) l = refl
-overwritten_front (a ∷ (b ∷ (c ∷ (d ∷ (e ∷ xs))))) fs h (suc (suc (suc (suc zero)))) l = refl
-overwritten_front (a ∷ (b ∷ (c ∷ (d ∷ (e ∷ xs))))) fs h (suc (suc (suc (suc (suc k))))) l = absurd (omega arith)
-
-pub overwritten_past : (xs fs : List ℕ) → 5 ≤ length xs → (k : ℕ) → 5 ≤ k → get_or (overwritten xs fs) k 0 ≡ get_or xs k 0
-overwritten_past xs fs h k l =
-    let n0 : k ≢ 0 = omega arith in let n1 : k ≢ 1 = omega arith in let n2 : k ≢ 2 = omega arith in let n3 : k ≢ 3 = omega arith in let n4 : k ≢ 4 = omega arith in
-    rw (get_or-set_other, get_or-set_other, get_or-set_other, get_or-set_other, get_or-set_other)
 
 -- a slice whose part from a on was written
 pub put_rest : (a : ℕ) (xs ys : List ℕ) → put_mid a (length xs - a) xs ys ≡ take a xs ++ ys

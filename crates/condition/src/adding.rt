@@ -44,27 +44,24 @@ fn write(front: &mut [u64], node: Node)
     ensures new { (k : ℕ) → k < 5 → slice_index front.new k ≡ slice_index (five node) k }
     ensures past { (k : ℕ) → 5 ≤ k → slice_index front.new k ≡ slice_index front.old k }
 {
-    let five = five(node);
-    front[0] = five[0];
-    front[1] = five[1];
-    front[2] = five[2];
-    front[3] = five[3];
-    front[4] = five[4];
+    front[..5].copy_from_slice(&<[u64; 5]>::from(node));
 }
 
 // A node as five numbers.
-fn five(node: Node) -> [u64; 5]
-    ensures { result ≡ five node }
-{
-    match node {
-        Node::Always => [0, 0, 0, 0, 0],
-        Node::Never => [1, 0, 0, 0, 0],
-        Node::Equal(Cell::Number(a), Cell::Number(b)) => [2, 0, a, 0, b],
-        Node::Equal(Cell::Number(a), Cell::Gap(b)) => [2, 0, a, 1, b],
-        Node::Equal(Cell::Gap(a), Cell::Number(b)) => [2, 1, a, 0, b],
-        Node::Equal(Cell::Gap(a), Cell::Gap(b)) => [2, 1, a, 1, b],
-        Node::Not(a) => [3, a, 0, 0, 0],
-        Node::Both(a, b) => [4, a, b, 0, 0],
-        Node::Either(a, b) => [5, a, b, 0, 0],
+impl From<Node> for [u64; 5] {
+    ghost from_gives = { λ n r. r ≡ five n };
+
+    fn from(node: Node) -> [u64; 5] {
+        match node {
+            Node::Always => [0, 0, 0, 0, 0],
+            Node::Never => [1, 0, 0, 0, 0],
+            Node::Equal(Cell::Number(a), Cell::Number(b)) => [2, 0, a, 0, b],
+            Node::Equal(Cell::Number(a), Cell::Gap(b)) => [2, 0, a, 1, b],
+            Node::Equal(Cell::Gap(a), Cell::Number(b)) => [2, 1, a, 0, b],
+            Node::Equal(Cell::Gap(a), Cell::Gap(b)) => [2, 1, a, 1, b],
+            Node::Not(a) => [3, a, 0, 0, 0],
+            Node::Both(a, b) => [4, a, b, 0, 0],
+            Node::Either(a, b) => [5, a, b, 0, 0],
+        }
     }
 }

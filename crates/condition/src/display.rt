@@ -1,8 +1,9 @@
-// Cells and nodes as text.
+// Cells, nodes and refusals as text.
 ghost use Rattle.std.specs.Prelude.{Some};
-ghost use Rattle.condition.specs.Text.{cell_text, node_text};
+ghost use Rattle.condition.specs.Text.{cell_text, node_text, refusal_text};
 
-use super::{Cell, Node};
+use super::{Cell, Node, Refusal};
+use std::error::Error;
 use std::fmt;
 
 // A number as it is; a gap as `g` and its name.
@@ -32,3 +33,15 @@ impl fmt::Display for Node {
         }
     }
 }
+
+// The number and the place, as `refused 4 2`.
+impl fmt::Display for Refusal {
+    ghost output = { λ r. Some (refusal_text r) };
+
+    fn fmt<W: fmt::Write>(&self, f: &mut fmt::Formatter<W>) -> fmt::Result {
+        let (number, place) = self.told();
+        write!(f, "refused {number} {place}")
+    }
+}
+
+impl Error for Refusal {}

@@ -1,6 +1,6 @@
 // Nodes that stand already.
-ghost use Rattle.std.specs.Prelude.{◌≡◌, ℕ, ◌<◌, true, false, IfSome, Decides, MatchOption};
-ghost use Rattle.condition.specs.Store.{store_fits, cond_at};
+ghost use Rattle.std.specs.Prelude.{◌≡◌, ℕ, ◌+◌, ◌*◌, ◌<◌, ◌≤◌, true, length, IfSome, Decides, MatchOption};
+ghost use Rattle.condition.specs.Store.{count, store_fits, cond_at};
 ghost use Rattle.condition.specs.Shapes.{node_of};
 ghost use Rattle.condition.specs.Nodes.{behind, StandsAs, Found, Lacks};
 
@@ -14,15 +14,16 @@ pub fn find(nodes: &[u64], node: Node) -> Option<u64>
     ensures found { MatchOption result (Lacks nodes.now node) (Found nodes.now node) }
     ensures condition { IfSome result (λ i. cond_at nodes.now i ≡ node_of node (cond_at nodes.now)) }
 {
-    let Ok(count) = store_count(nodes) else {
-        return None;
-    };
-    for i in 0..count {
-        if behind(node, i) && same(node_at(nodes, 1 + 5 * i as usize), node) {
-            return Some(i);
-        }
-    }
-    None
+    let count = store_count(nodes).ok()?;
+    (0..count).find(|&i| stands_as(nodes, i, node))
+}
+
+// Whether a node stands at place i, behind all that it names.
+fn stands_as(nodes: &[u64], i: u64, node: Node) -> bool
+    requires { (i < count nodes.now) × (1 + 5 * count nodes.now ≤ length nodes.now) }
+    ensures { Decides result (StandsAs nodes.now i node) }
+{
+    behind(node, i) && node_at(nodes, 1 + 5 * i as usize) == node
 }
 
 // Whether all places that a node names lie before i.
@@ -34,11 +35,4 @@ fn behind(node: Node, i: u64) -> bool
         Node::Not(a) => a < i,
         Node::Both(a, b) | Node::Either(a, b) => a < i && b < i,
     }
-}
-
-// Whether two nodes are the same.
-fn same(a: Node, b: Node) -> bool
-    ensures { Decides result (a ≡ b) }
-{
-    a == b
 }

@@ -24,14 +24,14 @@ pub use shown::Condition;
 pub use store::{MOST_NODES, read_node, room, store_count};
 
 // A number, or a gap by its name.
-#[derive(Clone, Copy, PartialEq, Eq)]
+#[derive(Clone, Copy, Debug, PartialEq, Eq)]
 pub enum Cell {
     Number(u64),
     Gap(u64),
 }
 
 // A node of a store: a condition over two cells, or over conditions at other places of the store.
-#[derive(Clone, Copy, PartialEq, Eq)]
+#[derive(Clone, Copy, Debug, PartialEq, Eq)]
 pub enum Node {
     Always,
     Never,
@@ -42,7 +42,7 @@ pub enum Node {
 }
 
 // Why a call was refused. What it holds is the place that is told with the number.
-#[derive(Clone, Copy)]
+#[derive(Clone, Copy, Debug, PartialEq, Eq)]
 pub enum Refusal {
     // 1: the first list at fault; 0 for no lists, 8 for more than eight, 9 for an answer's cells.
     BadLists(u64),

@@ -18,71 +18,63 @@ pub struct Condition<'a> {
 impl fmt::Display for Condition<'_> {
     fn fmt<W: fmt::Write>(&self, f: &mut fmt::Formatter<W>) -> fmt::Result {
         let mut left = MOST_SHOWN;
-        show(self.nodes, self.node, Around::Nothing, &mut left, f)
+        self.show(Around::Nothing, &mut left, f)
     }
 }
 
 // What a condition stands in.
-#[derive(Clone, Copy)]
+#[derive(Clone, Copy, PartialEq, Eq)]
 enum Around {
     Nothing,
     And,
     Not,
 }
 
-// Shows node i, and at most as many nodes as are left.
-fn show<W: fmt::Write>(
-    nodes: &[u64],
-    i: u64,
-    around: Around,
-    left: &mut u64,
-    f: &mut fmt::Formatter<W>,
-) -> fmt::Result
-    ensures { left.new ≤ left.old }
-{
-    if *left == 0 {
-        return write!(f, "..");
+impl<'a> Condition<'a> {
+    // Shows the condition, and at most as many nodes as are left.
+    fn show<W: fmt::Write>(
+        self,
+        around: Around,
+        left: &mut u64,
+        f: &mut fmt::Formatter<W>,
+    ) -> fmt::Result
+        ensures { left.new ≤ left.old }
+    {
+        if *left == 0 {
+            return write!(f, "..");
+        }
+        *left -= 1;
+        let Some(node) = read_node(self.nodes, self.node) else {
+            return write!(f, "never");
+        };
+        let (a, word, b, inside, bracketed) = match node {
+            Node::Always => return write!(f, "always"),
+            Node::Never => return write!(f, "never"),
+            Node::Equal(a, b) => return write!(f, "{a} = {b}"),
+            Node::Not(a) => {
+                write!(f, "not ")?;
+                return self.at(a).show(Around::Not, left, f);
+            }
+            Node::Both(a, b) => (a, "and", b, Around::And, around == Around::Not),
+            Node::Either(a, b) => (a, "or", b, Around::Nothing, around != Around::Nothing),
+        };
+        if bracketed {
+            write!(f, "(")?;
+        }
+        self.at(a).show(inside, left, f)?;
+        write!(f, " {word} ")?;
+        self.at(b).show(inside, left, f)?;
+        if bracketed {
+            write!(f, ")")?;
+        }
+        Ok(())
     }
-    *left -= 1;
-    let Some(node) = read_node(nodes, i) else {
-        return write!(f, "never");
-    };
-    match node {
-        Node::Always => write!(f, "always"),
-        Node::Never => write!(f, "never"),
-        Node::Equal(a, b) => write!(f, "{a} = {b}"),
-        Node::Not(a) => {
-            write!(f, "not ")?;
-            show(nodes, before(i, a), Around::Not, left, f)
-        }
-        Node::Both(a, b) => {
-            let bracketed = matches!(around, Around::Not);
-            write!(f, "{}", open(bracketed))?;
-            show(nodes, before(i, a), Around::And, left, f)?;
-            write!(f, " and ")?;
-            show(nodes, before(i, b), Around::And, left, f)?;
-            write!(f, "{}", close(bracketed))
-        }
-        Node::Either(a, b) => {
-            let bracketed = !matches!(around, Around::Nothing);
-            write!(f, "{}", open(bracketed))?;
-            show(nodes, before(i, a), Around::Nothing, left, f)?;
-            write!(f, " or ")?;
-            show(nodes, before(i, b), Around::Nothing, left, f)?;
-            write!(f, "{}", close(bracketed))
+
+    // The condition at a place that this one names: one that is not before it stands for none.
+    fn at(self, place: u64) -> Condition<'a> {
+        Condition {
+            nodes: self.nodes,
+            node: if place < self.node { place } else { u64::MAX },
         }
     }
-}
-
-// A place that node i may name: one that is not before it stands for none.
-fn before(i: u64, place: u64) -> u64 {
-    if place < i { place } else { u64::MAX }
-}
-
-fn open(bracketed: bool) -> &'static str {
-    if bracketed { "(" } else { "" }
-}
-
-fn close(bracketed: bool) -> &'static str {
-    if bracketed { ")" } else { "" }
 }

@@ -45,9 +45,7 @@ pub fn read_node(nodes: &[u64], i: u64) -> Option<Node>
     ensures condition { MatchOption result (stands nodes.now i ≡ false) (λ n. cond_at nodes.now i ≡ node_of n (earlier i (cond_at nodes.now))) }
     ensures named { MatchOption result (stands nodes.now i ≡ false) Named }
 {
-    let Ok(count) = store_count(nodes) else {
-        return None;
-    };
+    let count = store_count(nodes).ok()?;
     if i >= count {
         return None;
     }

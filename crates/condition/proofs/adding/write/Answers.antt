@@ -1,11 +1,8 @@
-use Rattle.std.proofs.Common.{get_or, ap, ◌∙◌}
-use Rattle.condition.proofs.Added.{overwritten_front, overwritten_past}
+use Rattle.std.proofs.Common.{◌≡◌, length, arith, length-take}
+use Rattle.std.proofs.lemmas.List.{get_or-append_right, get_or-drop}
 use Rattle.condition.proofs.adding.write.Goals as goal
 
-pub returns : goal.returns
-returns c =
-    let xs = c.args.front.now in let fs = c.five-five.result in
-    record {
-      new = λ k l. overwritten_front xs fs c.requires k l ∙ ap (λ t. get_or t k 0) c.five-five.ensures;
-      past = overwritten_past xs fs c.requires;
-    }
+pub returns-clause-past : goal.returns-clause-past
+returns-clause-past c k h =
+    let e : length c.copy_from_slice.new.self ≡ 5 = omega (arith, c.copy_from_slice.ensures.len, length-take 5 c.args.front.now) in
+    grind (arith, get_or-append_right, get_or-drop)

@@ -1,4 +1,4 @@
-use Rattle.std.proofs.Common.{◌<◌, length, drop, ◌∙◌, rules}
+use Rattle.std.proofs.Common.{◌<◌, false, length, drop, ◌∙◌, rules}
 use Rattle.list.proofs.Reading.{refilled_at}
 use Rattle.list.proofs.filled.worked_out.Goals as goal
 
@@ -8,6 +8,6 @@ returns c = (
       let bs = c.work_out.new.values in let n = c.in_ok-values.values.len in
       let l : j < n = search rules in
       let k : j < length bs = search rules in
-      refilled_at bs (drop (length bs) c.in_ok-values.values.items) n j l k ∙ c.work_out.ensures.values j h,
+      refilled_at bs (drop (length bs) c.in_ok-values.values.items) n j l k ∙ c.work_out.ensures.values j h false,
   search rules,
 )
