@@ -4,7 +4,7 @@ use Rattle.std.proofs.lemmas.List.{drop-drop}
 use Rattle.std.proofs.lemmas.Bool.{ltb-true, leb-true, eqb-true, and_parts}
 use Rattle.condition.specs.Refusals.{unless}
 use Rattle.condition.proofs.Refusing.{first_none, unless_none}
-use Rattle.list.specs.Layout.{lines_at, columns_at, list_size, list_fits, Fits, passing, all_pass, lists_told, list_named, named_below, shapes_in}
+use Rattle.list.specs.Layout.{lines_at, columns_at, list_size, list_fits, Fits, passing, AtEach, all_pass, lists_told, list_named, named_below, shapes_in}
 
 -- a list that fits has these bounds
 pub fits : (xs : List ℕ) → list_fits xs ≡ true → Fits xs
@@ -87,3 +87,15 @@ pub all_named : (lists : List ℕ) (c : ℕ) → named_below lists c ≡ None �
 all_named lists c e =
     let p : (all_pass (list_named c) lists 3 ≡ None) × _ = first_none (all_pass (list_named c) lists 3) _ e in
     (all_passed (list_named c) lists 3 p.0, ltb-true (get_or lists 1 0) c (unless_none (ltb (get_or lists 1 0) c) 3 8 p.1))
+
+-- what holds of any list, and what holds of those that fit, holds of each
+pub at_each : (P : List ℕ → Type 0) → ((ys : List ℕ) → P ys) → (k : ℕ) (xs : List ℕ) → AtEach P k xs
+unfolding AtEach
+at_each P h zero xs = tt
+at_each P h (suc k) xs = (h xs, at_each P h k (drop (list_size xs) xs))
+
+pub at_fitting : (P : List ℕ → Type 0) → ((ys : List ℕ) → Fits ys → P ys) → (k : ℕ) (xs : List ℕ) → passing list_fits k xs ≡ k → AtEach P k xs
+unfolding AtEach
+at_fitting P h zero xs e = tt
+at_fitting P h (suc k) xs e =
+    let p = pass_parts list_fits k xs e in (h xs (fits xs p.0), at_fitting P h k (drop (list_size xs) xs) p.1)

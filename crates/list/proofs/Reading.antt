@@ -1,13 +1,14 @@
 -- Lines and cells by their place.
-use Rattle.std.proofs.Common.{◌≡◌, ℕ, zero, suc, ◌+◌, ◌*◌, ◌<◌, ◌≤◌, Bool, true, false, cond as if, ltb, List, [], ◌∷◌, ◌++◌, length, get_or, take, drop, None, sym, refl, ap, ◌∙◌, add-zero, add_assoc, suc-mul, zero-mul, arith}
+use Rattle.std.proofs.Common.{◌≡◌, ℕ, zero, suc, ◌+◌, ◌*◌, ◌<◌, ◌≤◌, Bool, true, false, cond as if, ltb, List, [], ◌∷◌, ◌++◌, map, length, get_or, take, drop, None, sym, refl, ap, ◌∙◌, add-zero, add_assoc, suc-mul, zero-mul, arith}
 use Rattle.std.proofs.lemmas.List.{get_or-drop, drop-drop, get_or_past, get_or-take, get_or_append_left, take_more, take_all, append-nil}
+use Rattle.std.specs.List.{range_with_len}
 use Rattle.std.proofs.lemmas.Bool.{ltb-true, and_parts}
 use Rattle.std.proofs.lemmas.Bool.Decides.{nat_tests}
 use Rattle.condition.specs.Cond.{Cell}
 use Rattle.condition.specs.Store.{cell_in, cond_at, has_name}
 use Rattle.evaluate.specs.Filling.{Filling, fill_cell, holds}
 use Rattle.evaluate.specs.Values.{WorkedOut}
-use Rattle.list.proofs.Filling.{fill_app, filled_app}
+use Rattle.list.proofs.Filling.{filled_app}
 use Rattle.list.specs.Lists.{Line, Row, fill_cells, filled}
 use Rattle.list.specs.Shapes.{Shaped}
 use Rattle.list.specs.declared.shape.Shape.{Shape}
@@ -90,17 +91,14 @@ fits_named zero n h = refl
 fits_named (suc zero) n h = grind (arith, nat_tests)
 fits_named (suc (suc t)) n h = grind (arith, nat_tests)
 
--- one more cell of a line is filled
-pub fill_more : (v : Filling) (w a : ℕ) (xs : List ℕ) (d : Cell) → a < w → d ≡ cell_in (get_or xs (1 + 2 * a) 0) (get_or xs (2 + 2 * a) 0) →
-    fill_cells v (take (a + 1) (cells_in w (drop 1 xs))) ≡ fill_cells v (take a (cells_in w (drop 1 xs))) ++ fill_cell v d ∷ []
-unfolding fill_cells
-fill_more v w a xs d l e =
-    let h : a < length (cells_in w (drop 1 xs)) = rw (length_cells w (drop 1 xs)) l in
-    rw (take_more (cells_in w (drop 1 xs)) a d h, line_cell_at w a xs d l, ← e)
-    (fill_app v (take a (cells_in w (drop 1 xs))) (d ∷ []))
-
-pub fill_all : (v : Filling) (w a : ℕ) (xs : List ℕ) → w ≤ a → fill_cells v (take a (cells_in w xs)) ≡ fill_cells v (cells_in w xs)
-fill_all v w a xs l = let h : length (cells_in w xs) ≤ a = rw (length_cells w xs) l in rw (take_all a (cells_in w xs) h) refl
+-- each cell of a line is filled, by its place
+pub each_filled : (v : Filling) (w a : ℕ) (xs : List ℕ) →
+    map (λ i. fill_cell v (cell_in (get_or xs (1 + 2 * i) 0) (get_or xs (2 + 2 * i) 0))) (range_with_len a w) ≡ fill_cells v (cells_in w (drop (1 + 2 * a) xs))
+unfolding fill_cells cells_in
+each_filled v zero a xs = refl
+each_filled v (suc w) a xs =
+    let e : 1 + 2 * a + 0 ≡ 1 + 2 * a = omega arith in let f : 1 + 2 * a + 1 ≡ 2 + 2 * a = omega arith in let g : 1 + 2 * a + 2 ≡ 1 + 2 * (a + 1) = omega arith in
+    rw (get_or-drop (1 + 2 * a) xs 0 0, get_or-drop (1 + 2 * a) xs 1 0, drop-drop 2 (1 + 2 * a) xs, e, f, g, each_filled v w (a + 1) xs) refl
 
 -- one more line is filled
 pub filled_more : (v : Filling) (nodes : List ℕ) (n w i at : ℕ) (xs line : List ℕ) → i < n → line ≡ drop (at + i * line_size w) xs →

@@ -1,8 +1,9 @@
 -- Loops over cells, lines and lists: what is left, one step on and at the end.
-use Rattle.std.proofs.Common.{◌≡◌, ℕ, zero, suc, ◌+◌, ◌-◌, ◌*◌, ◌<◌, ◌≤◌, Bool, true, false, cond as if, ◌&&◌, ltb, List, length, get_or, take, drop, refl, ◌∙◌, suc-mul, arith, length-drop}
+use Rattle.std.proofs.Common.{◌≡◌, ℕ, zero, suc, ◌+◌, ◌-◌, ◌*◌, ◌<◌, ◌≤◌, Bool, true, false, ltb, List, length, get_or, take, drop, refl, suc-mul, arith, length-drop}
+use Rattle.std.specs.List.{list_all, range_with_len}
 use Rattle.std.proofs.lemmas.Nat.{mul-le}
 use Rattle.std.proofs.lemmas.List.{get_or-drop, drop-drop, take_rest}
-use Rattle.list.specs.Layout.{line_size, list_size, cell_fits, cells_fit, lines_fit, lines_named, passing}
+use Rattle.list.specs.Layout.{line_size, list_size, cell_fits, cells_fit, lines_fit, lines_named, passing, AtEach}
 
 -- one of n is left fewer
 pub left_step : (n i : ℕ) → i < n → n - i ≡ suc (n - (i + 1))
@@ -21,66 +22,46 @@ line_next i s = let e : i + 1 ≡ suc i = omega arith in rw e (suc-mul i s)
 pub line_small : (n w : ℕ) → n ≤ 64 → w ≤ 4 → n * line_size w ≤ 576
 line_small n w a b = mul-le n (line_size w) 64 9 a (omega arith)
 
-pub cells_fit_step : (w i : ℕ) (xs : List ℕ) → i < w →
-    cells_fit (w - i) (drop (2 * i) xs) ≡ (cell_fits (get_or xs (2 * i) 0) (get_or xs (2 * i + 1) 0) && cells_fit (w - (i + 1)) (drop (2 * (i + 1)) xs))
+-- a test of each cell, or of each line, by its place
+pub each_cell_fits : (w a : ℕ) (xs : List ℕ) → list_all (λ i. cell_fits (get_or xs (2 * i) 0) (get_or xs (2 * i + 1) 0)) (range_with_len a w) ≡ cells_fit w (drop (2 * a) xs)
 unfolding cells_fit
-cells_fit_step w i xs l =
-    let e : 2 * i + 0 ≡ 2 * i = omega arith in let f : 2 * i + 2 ≡ 2 * (i + 1) = omega arith in
-    rw (left_step w i l, get_or-drop (2 * i) xs 0 0, get_or-drop (2 * i) xs 1 0, drop-drop 2 (2 * i) xs, e, f) refl
+each_cell_fits zero a xs = refl
+each_cell_fits (suc w) a xs =
+    let e : 2 * a + 0 ≡ 2 * a = omega arith in let f : 2 * a + 2 ≡ 2 * (a + 1) = omega arith in
+    rw (get_or-drop (2 * a) xs 0 0, get_or-drop (2 * a) xs 1 0, drop-drop 2 (2 * a) xs, e, f, each_cell_fits w (a + 1) xs) refl
 
-pub lines_fit_step : (n w i : ℕ) (xs : List ℕ) → i < n →
-    lines_fit (n - i) w (drop (i * line_size w) xs) ≡ (cells_fit w (drop (i * line_size w + 1) xs) && lines_fit (n - (i + 1)) w (drop ((i + 1) * line_size w) xs))
+pub each_line_fits : (n w i : ℕ) (xs : List ℕ) → list_all (λ k. cells_fit w (drop (k * line_size w + 1) xs)) (range_with_len i n) ≡ lines_fit n w (drop (i * line_size w) xs)
 unfolding lines_fit
-lines_fit_step n w i xs l =
-    rw (left_step n i l, drop-drop 1 (i * line_size w) xs, drop-drop (line_size w) (i * line_size w) xs, line_next i (line_size w)) refl
+each_line_fits zero w i xs = refl
+each_line_fits (suc n) w i xs =
+    rw (drop-drop 1 (i * line_size w) xs, drop-drop (line_size w) (i * line_size w) xs, ← line_next i (line_size w), each_line_fits n w (i + 1) xs) refl
 
-pub passing_step : (ok : List ℕ → Bool) (k t at : ℕ) (xs : List ℕ) → t < k →
-    passing ok (k - t) (drop at xs) ≡ if (ok (drop at xs)) (suc (passing ok (k - (t + 1)) (drop (at + list_size (drop at xs)) xs))) 0
-unfolding passing
-passing_step ok k t at xs l = rw (left_step k t l, drop-drop (list_size (drop at xs)) at xs) refl
-
--- past the last there is nothing left to test
-pub cells_fit_none : (w i : ℕ) (xs : List ℕ) → w ≤ i → cells_fit (w - i) xs ≡ true
-unfolding cells_fit
-cells_fit_none w i xs l = let e : w - i ≡ 0 = omega arith in rw e refl
-
-pub lines_fit_none : (n w i : ℕ) (xs : List ℕ) → n ≤ i → lines_fit (n - i) w xs ≡ true
-unfolding lines_fit
-lines_fit_none n w i xs l = let e : n - i ≡ 0 = omega arith in rw e refl
-
-pub passing_none : (ok : List ℕ → Bool) (k t : ℕ) (xs : List ℕ) → k ≤ t → passing ok (k - t) xs ≡ 0
-unfolding passing
-passing_none ok k t xs l = let e : k - t ≡ 0 = omega arith in rw e refl
+pub each_line_named : (c n w i : ℕ) (xs : List ℕ) → list_all (λ k. ltb (get_or xs (k * line_size w) 0) c) (range_with_len i n) ≡ lines_named c n w (drop (i * line_size w) xs)
+unfolding lines_named
+each_line_named c zero w i xs = refl
+each_line_named c (suc n) w i xs =
+    let e : i * line_size w + 0 ≡ i * line_size w = omega arith in
+    rw (get_or-drop (i * line_size w) xs 0 0, drop-drop (line_size w) (i * line_size w) xs, ← line_next i (line_size w), e, each_line_named c n w (i + 1) xs) refl
 
 -- a part from a on, as `&xs[a..]` is read
 pub part_long : (xs : List ℕ) (a s : ℕ) → a + s ≤ length xs → s ≤ length (take (length xs - a) (drop a xs))
 part_long xs a s l = rw take_rest (simp length-drop (omega arith))
 
--- the first t lists pass, and the next passes or fails
-pub passing_more : (ok : List ℕ → Bool) (k t at s : ℕ) (xs : List ℕ) → t < k → ok (drop at xs) ≡ true → s ≡ list_size (drop at xs) →
-    passing ok k xs ≡ t + passing ok (k - t) (drop at xs) → passing ok k xs ≡ t + 1 + passing ok (k - (t + 1)) (drop (at + s) xs)
-passing_more ok k t at s xs l h e p =
-    let q : passing ok (k - t) (drop at xs) ≡ suc (passing ok (k - (t + 1)) (drop (at + s) xs))
-    = passing_step ok k t at xs l ∙ rw (h, e) refl in
-    omega arith
+-- of the lists that are left, the first t of k have passed: the next one, and what is left behind it
+pub at_next : (P : List ℕ → Type 0) (k t : ℕ) (xs : List ℕ) → t < k → AtEach P (k - t) xs → P xs × AtEach P (k - (t + 1)) (drop (list_size xs) xs)
+unfolding AtEach
+at_next P k t xs l h = rw (left_step k t l) at h
 
-pub passing_stop : (ok : List ℕ → Bool) (k t at : ℕ) (xs : List ℕ) → t < k → ok (drop at xs) ≡ false →
-    passing ok k xs ≡ t + passing ok (k - t) (drop at xs) → t ≡ passing ok k xs
-passing_stop ok k t at xs l h p =
-    let q : passing ok (k - t) (drop at xs) ≡ 0 = passing_step ok k t at xs l ∙ rw h refl in
-    omega arith
+pub passing_more : (ok : List ℕ → Bool) (k t p s : ℕ) (xs : List ℕ) → t < k → ok xs ≡ true → s ≡ list_size xs →
+    p ≡ t + passing ok (k - t) xs → p ≡ t + 1 + passing ok (k - (t + 1)) (drop s xs)
+unfolding passing
+passing_more ok k t p s xs l h e q =
+    let f : passing ok (k - t) xs ≡ suc (passing ok (k - (t + 1)) (drop s xs)) = rw (left_step k t l, h, e) refl in omega arith
 
-pub passing_all : (ok : List ℕ → Bool) (k t at : ℕ) (xs : List ℕ) → k ≤ t → t ≤ k →
-    passing ok k xs ≡ t + passing ok (k - t) (drop at xs) → k ≡ passing ok k xs
-passing_all ok k t at xs l m p = omega (arith, passing_none ok k t (drop at xs) l)
+pub passing_stop : (ok : List ℕ → Bool) (k t p : ℕ) (xs : List ℕ) → t < k → ok xs ≡ false → p ≡ t + passing ok (k - t) xs → t ≡ p
+unfolding passing
+passing_stop ok k t p xs l h q = let f : passing ok (k - t) xs ≡ 0 = rw (left_step k t l, h) refl in omega arith
 
-pub lines_named_step : (c n w i : ℕ) (xs : List ℕ) → i < n →
-    lines_named c (n - i) w (drop (i * line_size w) xs) ≡ (ltb (get_or xs (i * line_size w) 0) c && lines_named c (n - (i + 1)) w (drop ((i + 1) * line_size w) xs))
-unfolding lines_named
-lines_named_step c n w i xs l =
-    let e : i * line_size w + 0 ≡ i * line_size w = omega arith in
-    rw (left_step n i l, get_or-drop (i * line_size w) xs 0 0, drop-drop (line_size w) (i * line_size w) xs, line_next i (line_size w), e) refl
-
-pub lines_named_none : (c n w i : ℕ) (xs : List ℕ) → n ≤ i → lines_named c (n - i) w xs ≡ true
-unfolding lines_named
-lines_named_none c n w i xs l = let e : n - i ≡ 0 = omega arith in rw e refl
+pub passing_all : (ok : List ℕ → Bool) (k t p : ℕ) (xs : List ℕ) → k ≤ t → t ≤ k → p ≡ t + passing ok (k - t) xs → k ≡ p
+unfolding passing
+passing_all ok k t p xs l m q = let e : k - t ≡ 0 = omega arith in let f : passing ok (k - t) xs ≡ 0 = rw e refl in omega arith

@@ -3,7 +3,8 @@ use Rattle.std.proofs.Common.{◌≡◌, ℕ, suc, ◌+◌, ◌-◌, ◌*◌, �
 use Rattle.std.proofs.lemmas.List.{drop-drop, get_or-set_same, get_or-set_other}
 use Rattle.list.specs.Layout.{line_size, lines_at, columns_at, list_size, lists_in, all_in, shapes_in, list_fits, Fits, list_named, passing, lists_told}
 use Rattle.list.specs.Layout as layout
-use Rattle.list.specs.Shapes.{no_shape, Shaped}
+use Rattle.list.specs.Bounds.{no_shape}
+use Rattle.list.specs.Shapes.{Shaped}
 use Rattle.list.specs.declared.shape.Shape.{Shape}
 use Rattle.list.proofs.Stepping.{left_step}
 use Rattle.list.proofs.Fitting.{Fitted, fitted, fits_at, passed_next, pass_parts, all_named}

@@ -7,6 +7,7 @@
 --   all_in nodes lists         the lists, behind their count and the node of what is known
 --   shapes_in k xs             lines and columns of each
 --   list_fits xs, Fits xs      the list at the front of xs has at most 64 lines and 1 to 4 columns, is whole, and its cells are cells
+--   AtEach P k xs              P of each of the k lists at the front of xs
 --   lists_told lists           number 1 with its place
 --   named_below lists c        number 3 with its place, over a store of c nodes
 --   named_told lists nodes     the same over a store
@@ -96,6 +97,11 @@ list_named c xs = lines_named c (lines_at xs) (columns_at xs) (drop 2 xs)
 unfoldable pub passing : (List ℕ → Bool) → ℕ → List ℕ → ℕ
 passing ok zero xs = 0
 passing ok (suc k) xs = if (ok xs) (suc (passing ok k (drop (list_size xs) xs))) 0
+
+-- a list is taken with all that stands behind it
+unfoldable pub AtEach : (List ℕ → Type 0) → ℕ → List ℕ → Type 0
+AtEach P zero xs = Unit {0}
+AtEach P (suc k) xs = P xs × AtEach P k (drop (list_size xs) xs)
 
 -- the first of the lists that fails a test is the place
 unfoldable pub all_pass : (List ℕ → Bool) → List ℕ → ℕ → Told

@@ -1,3 +1,4 @@
 pub mod Lists
 pub mod Layout
+pub mod Bounds
 pub mod Shapes

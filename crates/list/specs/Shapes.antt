@@ -7,16 +7,14 @@
 use Rattle.std.specs.Prelude.{◌≡◌, ℕ, ◌+◌, ◌*◌, ◌<◌, ◌≤◌, true, List, [], map, length, get_or, drop, None, vec_items, Vec, slice_index, slice_index_or}
 use Rattle.list.specs.Layout.{line_size, lines_in, all_in, lines_fit, lines_named, named_below}
 use Rattle.list.specs.Layout as layout
+use Rattle.list.specs.Bounds.{no_shape}
 use Rattle.list.specs.Lists.{Row}
 use Rattle.list.specs.declared.shape.Shape.{Shape}
-use Rattle.list.specs.declared.shape.Shapes.{Shapes}
+use Rattle.list.specs.declared.shapes.Shapes.{Shapes}
 
 module _ {Z : Type 0} where
   abbrev pub rows_of : Vec (Vec ℕ Z) Z → List Row
   rows_of v = map vec_items (vec_items v)
-
-abbrev pub no_shape : Shape
-no_shape = record { at = 0; lines = 0; width = 0 }
 
 abbrev pub shape_of : Shapes → ℕ → Shape
 shape_of ss t = slice_index_or ss.shapes t no_shape

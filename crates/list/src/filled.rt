@@ -71,9 +71,8 @@ fn filled_row(heap: Global, line: &[u64], w: usize, filling: &Filling) -> Result
     requires { line_size w ≤ length line.now }
     ensures { MatchResult result (λ v. v.items ≡ fill_cells (numbers_of filling.now) (cells_in w (drop 1 line.now))) (λ e. e ≡ NoMemory) }
 {
-    let mut row = Vec::new(heap);
-    for a in 0..w {
-        row.push(filling.of(line_cell(line, a)))?;
-    }
+    let row = (0..w)
+        .map(|a| filling.of(line_cell(line, a)))
+        .collect(heap)?;
     Ok(row)
 }

@@ -1,8 +1,9 @@
 // Whether numbers are lists: their shapes and their cells.
 ghost use Rattle.std.specs.Prelude.{◌≡◌, ◌+◌, ◌*◌, ◌≤◌, true, false, length, IfOk, MatchOption, slice_index};
 ghost use Rattle.condition.specs.Refusals.{outcome};
-ghost use Rattle.list.specs.Layout.{line_size, list_size, cell_fits, cells_fit, lines_fit, list_fits, passing, lists_told};
+ghost use Rattle.list.specs.Layout.{line_size, list_size, cell_fits, cells_fit, lines_fit, list_fits, lists_told};
 
+use crate::passing::passing;
 use condition::Refusal;
 
 // How many lists there are, or why they are none.
@@ -23,25 +24,11 @@ pub fn check_lists(lists: &[u64]) -> Result<u64, Refusal>
     if lists.len() == 1 {
         return Err(Refusal::BadLists(0));
     }
-    let fitting = fitting_lists(&lists[2..], count);
+    let fitting = passing(&lists[2..], count, fitting_size);
     if fitting != count {
         return Err(Refusal::BadLists(fitting));
     }
     Ok(count)
-}
-
-// Of the k lists at the front, how many fit before the first that does not.
-fn fitting_lists(xs: &[u64], k: u64) -> u64
-    ensures { result ≡ passing list_fits k xs.now }
-{
-    let mut at = 0;
-    for t in 0..k {
-        let Some(size) = fitting_size(&xs[at..]) else {
-            return t;
-        };
-        at += size;
-    }
-    k
 }
 
 // How many numbers the list at the front takes, if it fits.
@@ -59,32 +46,18 @@ fn fitting_size(xs: &[u64]) -> Option<usize>
     let n = lines as usize;
     let w = columns as usize;
     let size = 2 + n * (1 + 2 * w);
-    if size > xs.len() || !lines_fit(&xs[2..], n, w) {
+    if size > xs.len() || !any_lines_fit(&xs[2..], n, w) {
         return None;
     }
     Some(size)
 }
 
 // Whether the cells of n lines, w cells wide, are cells.
-fn lines_fit(xs: &[u64], n: usize, w: usize) -> bool
-    requires narrow { w ≤ 4 }
-    requires whole { n * line_size w ≤ length xs.now }
-    ensures { result ≡ lines_fit n w xs.now }
-{
-    any_lines_fit(xs, n, w)
-}
-
-// The same for lines of any width.
 pub fn any_lines_fit(xs: &[u64], n: usize, w: usize) -> bool
     requires { n * line_size w ≤ length xs.now }
     ensures { result ≡ lines_fit n w xs.now }
 {
-    for i in 0..n {
-        if !cells_fit(&xs[i * (1 + 2 * w) + 1..], w) {
-            return false;
-        }
-    }
-    true
+    (0..n).all(|i| cells_fit(&xs[i * (1 + 2 * w) + 1..], w))
 }
 
 // Whether w cells are a number or one of the 64 gaps each.
@@ -92,12 +65,7 @@ fn cells_fit(xs: &[u64], w: usize) -> bool
     requires { 2 * w ≤ length xs.now }
     ensures { result ≡ cells_fit w xs.now }
 {
-    for a in 0..w {
-        if !cell_fits(xs[2 * a], xs[2 * a + 1]) {
-            return false;
-        }
-    }
-    true
+    (0..w).all(|a| cell_fits(xs[2 * a], xs[2 * a + 1]))
 }
 
 // Whether two numbers stand for a number or one of the 64 gaps.

@@ -13,13 +13,16 @@ mod filled;
 mod fits;
 mod lines;
 mod named;
+mod passing;
 mod shape;
+mod shapes;
 
 pub use filled::rows;
 pub use fits::{any_lines_fit, check_lists};
 pub use lines::{line, line_cell, line_node};
 pub use named::{any_lines_named, check_named};
-pub use shape::{Shape, Shapes};
+pub use shape::Shape;
+pub use shapes::Shapes;
 
 // How many lists there are; or why the lists are none, or else the store is none, or else a node they name does not stand.
 pub fn check(lists: &[u64], nodes: &[u64]) -> Result<u64, Refusal>
@@ -42,8 +45,6 @@ pub fn check(lists: &[u64], nodes: &[u64]) -> Result<u64, Refusal>
 }
 
 // Any few lists of rows can be meant at once by one list with gaps: see specs/Lists.antt.
-pub fn all_at_once() -> u8
+pub fn all_at_once()
     ensures { AllAtOnce }
-{
-    0
-}
+{}

@@ -1,8 +1,9 @@
 // Whether the nodes that lists name stand in a store.
 ghost use Rattle.std.specs.Prelude.{◌≡◌, ◌*◌, ◌≤◌, true, false, length, IfOk, None, MatchOption, slice_index};
 ghost use Rattle.condition.specs.Refusals.{outcome};
-ghost use Rattle.list.specs.Layout.{line_size, list_size, list_fits, Fits, lines_named, list_named, passing, lists_told, named_below};
+ghost use Rattle.list.specs.Layout.{line_size, list_size, Fits, lines_named, list_named, lists_told, named_below};
 
+use crate::passing::passing;
 use condition::Refusal;
 
 // How many lists there are, or which names a node that does not stand among count nodes.
@@ -11,7 +12,13 @@ pub fn check_named(lists: &[u64], count: u64) -> Result<u64, Refusal>
     ensures refusal { outcome result ≡ named_below lists.now count }
     ensures value { IfOk result (λ n. n ≡ slice_index lists.now 0) }
 {
-    let named = named_lists(&lists[2..], lists[0], count);
+    let named = passing(
+        &lists[2..],
+        lists[0],
+        |list|
+            requires { Fits list.now }
+        { named_size(list, count) },
+    );
     if named != lists[0] {
         return Err(Refusal::NoSuchNode(named));
     }
@@ -21,52 +28,23 @@ pub fn check_named(lists: &[u64], count: u64) -> Result<u64, Refusal>
     Ok(named)
 }
 
-// Of the k lists at the front, how many name only nodes that stand before the first that does not.
-fn named_lists(xs: &[u64], k: u64, count: u64) -> u64
-    requires { passing list_fits k xs.now ≡ k }
-    ensures { result ≡ passing (list_named count) k xs.now }
-{
-    let mut at = 0;
-    for t in 0..k {
-        let Some(size) = named_size(&xs[at..], count) else {
-            return t;
-        };
-        at += size;
-    }
-    k
-}
-
 // How many numbers the list at the front takes, if its lines name only nodes that stand.
 fn named_size(xs: &[u64], count: u64) -> Option<usize>
     requires { Fits xs.now }
-    ensures { MatchOption result (list_named count xs.now ≡ false) (λ n. (list_named count xs.now ≡ true) × (n ≡ list_size xs.now)) }
+    ensures { MatchOption result (list_named count xs.now ≡ false) (λ n. (list_named count xs.now ≡ true) × (n ≡ list_size xs.now) × (n ≤ length xs.now)) }
 {
     let n = xs[0] as usize;
     let w = xs[1] as usize;
-    if !lines_named(&xs[2..], n, w, count) {
+    if !any_lines_named(&xs[2..], n, w, count) {
         return None;
     }
     Some(2 + n * (1 + 2 * w))
 }
 
 // Whether the nodes of n lines, w cells wide, stand among count nodes.
-fn lines_named(xs: &[u64], n: usize, w: usize, count: u64) -> bool
-    requires narrow { w ≤ 4 }
-    requires whole { n * line_size w ≤ length xs.now }
-    ensures { result ≡ lines_named count n w xs.now }
-{
-    any_lines_named(xs, n, w, count)
-}
-
-// The same for lines of any width.
 pub fn any_lines_named(xs: &[u64], n: usize, w: usize, count: u64) -> bool
     requires { n * line_size w ≤ length xs.now }
     ensures { result ≡ lines_named count n w xs.now }
 {
-    for i in 0..n {
-        if xs[i * (1 + 2 * w)] >= count {
-            return false;
-        }
-    }
-    true
+    (0..n).all(|i| xs[i * (1 + 2 * w)] < count)
 }

@@ -1,19 +1,15 @@
-use Rattle.std.proofs.Common.{drop, is_ok, ap, ◌∙◌, arith}
-use Rattle.std.proofs.ResultArms.{chosen}
-use Rattle.condition.specs.Shapes.{cell_of}
+use Rattle.std.proofs.Common.{◌+◌, ◌*◌, get_or, Ok, ◌∙◌, arith, rules, tests}
+use Rattle.std.proofs.lemmas.Iterator.{YieldsList-from_range, YieldsList-from_map, items_from_collect}
+use Rattle.condition.specs.Store.{cell_in}
+use Rattle.evaluate.specs.Filling.{fill_cell}
 use Rattle.evaluate.specs.Shapes.{numbers_of}
-use Rattle.list.specs.Lists.{fill_cells}
-use Rattle.list.proofs.Reading.{fill_more, fill_all}
+use Rattle.list.proofs.Reading.{each_filled}
 use Rattle.list.proofs.filled.filled_row.Goals as goal
 
-pub loop-a-init : goal.loop-a-init
-unfolding fill_cells
-loop-a-init c = c.new-row.ensures.items
-
-pub loop-a-preserved : goal.loop-a-preserved
-loop-a-preserved c =
-    let pushed = chosen _ _ _ _ c.push.ensures.items (ap is_ok c.in_ok-push.was) in
-    cc (fill_more (numbers_of c.args.filling.now) c.args.w c.loop-a.a c.args.line.now (cell_of c.line_cell.result) c.loop-a-test.true c.line_cell.ensures)
-
 pub returns : goal.returns
-returns c = c.loop-a.invariant ∙ fill_all (numbers_of c.args.filling.now) c.args.w c.loop-a.a (drop 1 c.args.line.now) (omega arith)
+returns c =
+    let v = numbers_of c.args.filling.now in let xs = c.args.line.now in let w = c.args.w in
+    items_from_collect {E = Unit {0}} (Ok c.in_ok-row.row) c.in_ok-row.ensures.ran
+    (YieldsList-from_map _ (λ a. fill_cell v (cell_in (get_or xs (1 + 2 * a) 0) (get_or xs (2 + 2 * a) 0)))
+    (YieldsList-from_range 0 w w c.map.ensures.source (omega arith)) c.map.ensures.closure (λ x r q k. search (rules, tests)))
+    ∙ each_filled v w 0 xs

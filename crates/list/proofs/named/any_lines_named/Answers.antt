@@ -1,23 +1,13 @@
-use Rattle.std.proofs.Common.{◌*◌, drop, arith}
-use Rattle.std.proofs.lemmas.Bool.Decides.{nat_tests}
+use Rattle.std.proofs.Common.{◌*◌, ltb, get_or, refl, ◌∙◌, arith, rules, tests, zero-mul}
+use Rattle.std.proofs.lemmas.Iterator.{YieldsList-from_range}
+use Rattle.std.proofs.lemmas.Iterator.Search.{all_from_yields_List}
 use Rattle.list.specs.Layout.{line_size}
-use Rattle.list.proofs.Stepping.{line_within, lines_named_step, lines_named_none}
+use Rattle.list.proofs.Stepping.{each_line_named}
 use Rattle.list.proofs.named.any_lines_named.Goals as goal
-
-pub offset_bounds-xs-i : goal.offset_bounds-xs-i
-offset_bounds-xs-i c = omega (arith, line_within c.loop-i.i c.args.n (line_size c.args.w) c.loop-i-test.true)
-
-pub bounds-xs-i : goal.bounds-xs-i
-bounds-xs-i c = omega (arith, line_within c.loop-i.i c.args.n (line_size c.args.w) c.loop-i-test.true)
-
-pub returns-then-xs-i : goal.returns-then-xs-i
-returns-then-xs-i c =
-    let e = lines_named_step c.args.count c.args.n c.args.w c.loop-i.i c.args.xs.now c.loop-i-test.true in grind (arith, nat_tests)
-
-pub loop-i-preserved : goal.loop-i-preserved
-loop-i-preserved c =
-    let e = lines_named_step c.args.count c.args.n c.args.w c.loop-i.i c.args.xs.now c.loop-i-test.true in grind (arith, nat_tests)
 
 pub returns : goal.returns
 returns c =
-    let e = lines_named_none c.args.count c.args.n c.args.w c.loop-i.i (drop (c.loop-i.i * line_size c.args.w) c.args.xs.now) (omega arith) in grind arith
+    let xs = c.args.xs.now in let w = c.args.w in
+    all_from_yields_List (λ i. ltb (get_or xs (i * line_size w) 0) c.args.count) _ _ _ c.all.ensures.ran
+    (YieldsList-from_range 0 c.args.n c.args.n refl (omega arith)) (λ x b q k. search (rules, tests))
+    ∙ (each_line_named c.args.count c.args.n w 0 xs ∙ rw (zero-mul (line_size w)) refl)

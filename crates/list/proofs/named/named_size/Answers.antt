@@ -3,10 +3,10 @@ use Rattle.std.proofs.lemmas.List.{take_rest}
 use Rattle.list.specs.Layout.{list_named}
 use Rattle.list.proofs.named.named_size.Goals as goal
 
-pub returns-then-not-lines_named : goal.returns-then-not-lines_named
+pub returns-then-not-any_lines_named : goal.returns-then-not-any_lines_named
 unfolding list_named
-returns-then-not-lines_named c = let p = simp take_rest at c.lines_named.ensures in cc
+returns-then-not-any_lines_named c = let p = simp take_rest at c.any_lines_named.ensures in cc
 
 pub returns : goal.returns
 unfolding list_named
-returns c = let p = simp take_rest at c.lines_named.ensures in (cc, omega arith)
+returns c = let p = simp take_rest at c.any_lines_named.ensures in (cc, omega arith, omega (arith, c.requires.whole))

@@ -17,6 +17,7 @@ returns c =
       at = refl;
       lines = a;
       width = b;
+      few = omega (arith, c.requires.fits.lines);
       narrow = omega (arith, c.requires.fits.narrow);
       whole = rw (a, b) (omega (arith, c.requires.fits.whole, c.requires.fits.some, length-drop c.args.at c.args.lists.now));
     }

@@ -1,7 +1,7 @@
 use Rattle.std.proofs.Common.{◌<◌, length, refl, arith, length-set}
 use Rattle.list.proofs.Fitting.{fitted}
 use Rattle.list.proofs.Walking.{walked_none, walked_fits, walked_past, walked_shaped, shaped_more}
-use Rattle.list.proofs.shape.Shapes.of.Goals as goal
+use Rattle.list.proofs.shapes.Shapes.of.Goals as goal
 
 pub bounds-lists-0 : goal.bounds-lists-0
 bounds-lists-0 c = omega (arith, (fitted c.args.lists.now c.requires).long)
