@@ -3,11 +3,12 @@ use Rattle.std.proofs.Common.{◌≡◌, ℕ, suc, ◌+◌, ◌-◌, ◌*◌, �
 use Rattle.std.proofs.lemmas.List.{get_or_past}
 use Rattle.std.proofs.lemmas.List.FromFn.{length-map-range_with_len, get_or-map-range_with_len}
 use Rattle.std.proofs.lemmas.Bool.{leb-true, leb-false, eqb-true, eqb-false, and_parts, and_right, lt-leb, cases_lt}
+use Rattle.list.specs.Bounds.{AllSmall}
 use Rattle.list.specs.Shapes.{shape_of}
-use Rattle.list.specs.declared.shape.Shapes.{Shapes}
+use Rattle.list.specs.declared.shapes.Shapes.{Shapes}
 use Rattle.query.specs.Reading as signs
 use Rattle.query.specs.Reading.{Sized, Read, read, bad, reads, sign_in, a_list, no_sign, all_below}
-use Rattle.query.specs.Shapes.{part_at, pairs_of, Few}
+use Rattle.query.specs.Shapes.{part_at, pairs_of}
 use Rattle.query.specs.Parts.{Numbers, Reads}
 use Rattle.query.specs.Tokens.{OneIs, pair_of, one_fits, one_part, pair_fits, pair_part}
 use Rattle.query.specs.declared.Sign.TheVariants.{Rows}
@@ -26,11 +27,11 @@ pairs_length ss = length-map-range_with_len (λ t. ((shape_of ss t).lines, (shap
 pub pairs_at : (ss : Shapes) (t : ℕ) → t < ss.count → get_or (pairs_of ss) t (0, 0) ≡ ((shape_of ss t).lines, (shape_of ss t).width)
 pairs_at ss t l = get_or-map-range_with_len (λ t. ((shape_of ss t).lines, (shape_of ss t).width)) 0 ss.count t t (0, 0) l (omega arith)
 
-pub pairs_small : (ss : Shapes) → Few ss → Small (pairs_of ss)
-pairs_small ss few t = go (cases_lt t ss.count)
+pub pairs_small : (ss : Shapes) → AllSmall ss.shapes ss.count → Small (pairs_of ss)
+pairs_small ss small t = go (cases_lt t ss.count)
   where
     go : (t < ss.count) ⊎ (ss.count ≤ t) → ((get_or (pairs_of ss) t (0, 0)).0 ≤ 64) × ((get_or (pairs_of ss) t (0, 0)).1 ≤ 4)
-    go (inl l) = rw (pairs_at ss t l) (few.lines t l, few.width t l)
+    go (inl l) = rw (pairs_at ss t l) ((small t l).lines, (small t l).width)
     go (inr l) = rw (get_or_past (pairs_of ss) t (0, 0) (rw (pairs_length ss) l)) (omega arith, omega arith)
 
 module _ (left : ℕ) (ss : List (ℕ × ℕ)) (at : ℕ) (xs : List ℕ) (some : left ≡ 0 → ⊥) (six : 6 ≤ length xs) where

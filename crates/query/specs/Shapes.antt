@@ -4,10 +4,10 @@
 --   test_of t          the test
 --   pairs_of ss        the lines and columns of each list, by the shapes of the lists
 --   query_of n ps      the question that begins with the first of the parts ps, read at most n parts deep
-use Rattle.std.specs.Prelude.{ℕ, zero, suc, ◌<◌, ◌≤◌, List, map, take, drop, slice_index_or}
+use Rattle.std.specs.Prelude.{ℕ, zero, suc, List, map, take, drop, slice_index_or}
 use Rattle.std.specs.List.{range_with_len}
 use Rattle.list.specs.Shapes.{shape_of}
-use Rattle.list.specs.declared.shape.Shapes.{Shapes}
+use Rattle.list.specs.declared.shapes.Shapes.{Shapes}
 use Rattle.query.specs.Ask.{same, differ, is, is_not, Query, table, keep, columns, join, union, without}
 use Rattle.query.specs.Ask as asking
 use Rattle.query.specs.declared.Test.{Test}
@@ -45,9 +45,3 @@ query_of (suc n) ps = query_by (part_at ps 0).sign (part_at ps 0).width (λ i. q
 -- lines and columns of each list
 abbrev pub pairs_of : Shapes → List (ℕ × ℕ)
 pairs_of ss = map (λ t. ((shape_of ss t).lines, (shape_of ss t).width)) (range_with_len 0 ss.count)
-
--- at most eight lists, each of at most 64 lines and 4 columns
-pub record Few (ss : Shapes) : Type 0 where
-  pub count : ss.count ≤ 8
-  pub lines : (t : ℕ) → t < ss.count → (shape_of ss t).lines ≤ 64
-  pub width : (t : ℕ) → t < ss.count → (shape_of ss t).width ≤ 4

@@ -1,10 +1,9 @@
 -- Signs as the code first reads them, and the parts that it writes for them.
 --
 --   TokenIs o s           the token o is the sign s
---   list_part, one_part, pair_part     the part that is written for a sign and the questions behind it
+--   list_part, one_part, pair_part     the part of a sign and the questions behind it
 --   one_fits, pair_fits                whether its columns and widths fit
---   Put b at p before after            the part p was written at its place, or nothing was
-use Rattle.std.specs.Prelude.{◌≡◌, ℕ, ◌+◌, ◌*◌, ◌≤◌, Bool, true, false, ◌&&◌, List, length, take, Some, None, Option, nat_le, slice_set}
+use Rattle.std.specs.Prelude.{◌≡◌, ℕ, ◌+◌, ◌*◌, ◌≤◌, Bool, ◌&&◌, List, length, take, Some, None, Option, nat_le}
 use Rattle.list.specs.declared.shape.Shape.{Shape}
 use Rattle.query.specs.Reading.{a_list, a_test, some_columns, a_join, a_union, a_without, no_sign, test_fits, all_below}
 use Rattle.query.specs.Reading as signs
@@ -61,8 +60,3 @@ pair_part Joined second p q =
 pair_part United second p q = record { sign = Union second; lines = p.lines + q.lines; width = p.width; cost = p.cost + q.cost }
 pair_part Less second p q =
     record { sign = Without second; lines = p.lines; width = p.width; cost = p.cost + q.cost + p.lines * q.lines * (2 * p.width + 3) }
-
--- written at its place where it fits; else nothing is
-abbrev pub Put : Bool → ℕ → Part → (before after : List Part) → Type 0
-Put true at p before after = after ≡ slice_set before at p
-Put false at p before after = after ≡ before

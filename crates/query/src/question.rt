@@ -7,7 +7,7 @@ ghost use Rattle.list.specs.Shapes.{rows_of};
 ghost use Rattle.query.specs.Ask.{ask};
 ghost use Rattle.query.specs.Rows.{tables_in};
 ghost use Rattle.query.specs.Reading.{asked, reads, sized, question_told, size_told, sizes_told};
-ghost use Rattle.query.specs.Shapes.{part_at, pairs_of, query_of, Few};
+ghost use Rattle.query.specs.Shapes.{part_at, pairs_of, query_of};
 ghost use Rattle.query.specs.Questions.{Parses, Stands};
 
 use crate::asking::ask_rows;
@@ -30,10 +30,8 @@ impl Question {
         ensures refusal { outcome result ≡ first (lists_told lists.now) (first (question_told (asked lists.now signs.now) signs.now) (size_told (sized (asked lists.now signs.now)))) }
         ensures value { IfOk result (λ q. Stands (layout.shapes lists.now) (asked lists.now signs.now) q.parts q.signs) }
     {
-        match check_lists(lists) {
-            Ok(_) => Question::within(Shapes::of(lists), signs),
-            Err(refusal) => Err(refusal),
-        }
+        check_lists(lists)?;
+        Question::within(Shapes::of(lists), signs)
     }
 
     // The same, however large it is.
@@ -41,10 +39,8 @@ impl Question {
         ensures refusal { outcome result ≡ first (lists_told lists.now) (question_told (asked lists.now signs.now) signs.now) }
         ensures value { IfOk result (λ q. Parses (layout.shapes lists.now) (asked lists.now signs.now) q.parts q.signs) }
     {
-        match check_lists(lists) {
-            Ok(_) => Question::parse_within(Shapes::of(lists), signs),
-            Err(refusal) => Err(refusal),
-        }
+        check_lists(lists)?;
+        Question::parse_within(Shapes::of(lists), signs)
     }
 
     // How many lines its answer has.
@@ -84,23 +80,16 @@ impl Question {
 
     // The question that the signs ask of lists of these shapes; or why it can't be read, or is too large.
     pub fn within(shapes: Shapes, signs: &[u64]) -> Result<Question, Refusal>
-        requires { Few shapes }
         ensures refusal { outcome result ≡ first (question_told (reads 16 (pairs_of shapes) 0 (take 96 signs.now)) signs.now) (size_told (sized (reads 16 (pairs_of shapes) 0 (take 96 signs.now)))) }
         ensures value { IfOk result (λ q. Stands (pairs_of shapes) (reads 16 (pairs_of shapes) 0 (take 96 signs.now)) q.parts q.signs) }
     {
-        let parsed = Question::parse_within(shapes, signs);
-        let Ok(question) = parsed else {
-            return parsed;
-        };
-        match question.check_size() {
-            Ok(_) => parsed,
-            Err(refusal) => Err(refusal),
-        }
+        let question = Question::parse_within(shapes, signs)?;
+        question.check_size()?;
+        Ok(question)
     }
 
     // The question that the signs ask of lists of these shapes, however large; or the sign at which it can't be read.
     fn parse_within(shapes: Shapes, signs: &[u64]) -> Result<Question, Refusal>
-        requires { Few shapes }
         ensures refusal { outcome result ≡ question_told (reads 16 (pairs_of shapes) 0 (take 96 signs.now)) signs.now }
         ensures value { IfOk result (λ q. Parses (pairs_of shapes) (reads 16 (pairs_of shapes) 0 (take 96 signs.now)) q.parts q.signs) }
     {
@@ -110,10 +99,7 @@ impl Question {
             width: 0,
             cost: 0,
         }; 16];
-        let next = match read(front(signs), 16, 0, shapes, &mut parts) {
-            Ok(p) => p.next,
-            Err(off) => return Err(Refusal::BadQuestion(off as u64)),
-        };
+        let next = read(front(signs), 16, 0, &shapes, &mut parts)?.next;
         if 6 * next != signs.len() {
             return Err(Refusal::BadQuestion(next as u64));
         }
@@ -138,8 +124,5 @@ impl Question {
 fn front(signs: &[u64]) -> &[u64]
     ensures { result.now ≡ take 96 signs.now }
 {
-    if signs.len() > 96 {
-        return &signs[0..96];
-    }
-    signs
+    &signs[..signs.len().min(96)]
 }

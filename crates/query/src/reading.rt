@@ -1,12 +1,14 @@
 // Signs read into the parts of a question.
-ghost use Rattle.std.specs.Prelude.{◌≡◌, ℕ, ◌+◌, ◌-◌, ◌*◌, ◌^◌, ◌<◌, ◌≤◌, List, length, take, drop, MatchResult, nat_lt, slice_index};
+ghost use Rattle.std.specs.Prelude.{◌≡◌, ℕ, ◌+◌, ◌*◌, ◌^◌, ◌<◌, ◌≤◌, true, false, List, length, take, drop, MatchOption, MatchResult, slice_index};
+ghost use Rattle.condition.specs.declared.Refusal.TheVariants.{BadQuestion};
 ghost use Rattle.list.specs.Shapes.{shape_of};
 ghost use Rattle.query.specs.Reading.{sign_in, reads, bad, all_below, test_fits};
-ghost use Rattle.query.specs.Shapes.{test_of, part_at, pairs_of, Few};
+ghost use Rattle.query.specs.Shapes.{test_of, pairs_of};
 ghost use Rattle.query.specs.Parts.{Reads};
-ghost use Rattle.query.specs.Tokens.{TokenIs, list_part, one_fits, one_part, pair_fits, pair_part, Put};
+ghost use Rattle.query.specs.Tokens.{TokenIs, list_part, one_fits, one_part, pair_fits, pair_part};
 
 use crate::{Part, Sign, Test};
+use condition::Refusal;
 use list::Shapes;
 
 // A sign as it stands in memory: a list, or a sign with one question behind it, or one with two.
@@ -68,51 +70,35 @@ pub(crate) fn read<'a>(
     signs: &'a [u64],
     left: u64,
     at: usize,
-    shapes: Shapes,
+    shapes: &Shapes,
     parts: &mut [Part],
-) -> Result<Reading<'a>, usize>
+) -> Result<Reading<'a>, Refusal>
     requires long { length parts.old ≡ 16 }
     requires few { 6 * at + length signs.now ≤ 96 }
-    requires shapes { Few shapes }
-    ensures { MatchResult result (λ p. Reads left (pairs_of shapes) at signs.now parts.old parts.new p.next p.rest.now) (λ off. reads left (pairs_of shapes) at signs.now ≡ bad off) }
+    ensures { MatchResult result (λ p. Reads left (pairs_of shapes.now) at signs.now parts.old parts.new p.next p.rest.now) (λ e. (off : ℕ) × (e ≡ BadQuestion off) × (reads left (pairs_of shapes.now) at signs.now ≡ bad off)) }
 {
+    let bad = Refusal::BadQuestion(at as u64);
     if left == 0 || signs.len() < 6 {
-        return Err(at);
+        return Err(bad);
     }
-    let Some(token) = token_at(signs) else {
-        return Err(at);
-    };
+    let token = token_at(signs).ok_or(bad)?;
     let behind = &signs[6..];
     match token {
         Token::Listed(t) => {
-            if !put_list(t, at, shapes, parts) {
-                return Err(at);
-            }
+            parts[at] = list_part(t, shapes).ok_or(bad)?;
             let next = at + 1;
             Ok(Reading { next, rest: behind })
         }
         Token::Single(one) => {
-            let p = match read(behind, left - 1, at + 1, shapes, parts) {
-                Ok(p) => p,
-                Err(off) => return Err(off),
-            };
-            if !put_one(one, at, parts) {
-                return Err(at);
-            }
+            let p = read(behind, left - 1, at + 1, shapes, parts)?;
+            parts[at] = one_part(one, parts[at + 1]).ok_or(bad)?;
             Ok(p)
         }
         Token::Double(pair) => {
-            let p = match read(behind, left - 1, at + 1, shapes, parts) {
-                Ok(p) => p,
-                Err(off) => return Err(off),
-            };
-            let q = match read(p.rest, left - 1, p.next, shapes, parts) {
-                Ok(q) => q,
-                Err(off) => return Err(off),
-            };
-            if !put_pair(pair, at, p.next, parts) {
-                return Err(at);
-            }
+            let p = read(behind, left - 1, at + 1, shapes, parts)?;
+            let q = read(p.rest, left - 1, p.next, shapes, parts)?;
+            let second = p.next - at;
+            parts[at] = pair_part(pair, second, parts[at + 1], parts[p.next]).ok_or(bad)?;
             Ok(q)
         }
     }
@@ -123,10 +109,8 @@ fn test_fits(test: Test, w: usize) -> bool
     ensures { result ≡ test_fits (test_of test) w }
 {
     match test {
-        Test::Same(a, b) => a < w && b < w,
-        Test::Differ(a, b) => a < w && b < w,
-        Test::Is(a, _) => a < w,
-        Test::IsNot(a, _) => a < w,
+        Test::Same(a, b) | Test::Differ(a, b) => a < w && b < w,
+        Test::Is(a, _) | Test::IsNot(a, _) => a < w,
     }
 }
 
@@ -135,117 +119,72 @@ fn columns_fit(columns: [usize; 4], k: usize, w: usize) -> bool
     requires { k ≤ 4 }
     ensures { result ≡ all_below w (take k columns) }
 {
-    for i in 0..k {
-        if columns[i] >= w {
-            return false;
-        }
-    }
-    true
+    columns[..k].iter().all(|a| *a < w)
 }
 
-// Writes the part of a list, if there is such a list.
-fn put_list(t: usize, at: usize, shapes: Shapes, parts: &mut [Part]) -> bool
-    requires within { at < length parts.old }
-    requires shapes { Few shapes }
-    ensures fits { result ≡ nat_lt t shapes.count }
-    ensures put { Put result at (list_part t (shape_of shapes t)) parts.old parts.new }
+// The part of a list, if there is such a list.
+fn list_part(t: usize, shapes: &Shapes) -> Option<Part>
+    ensures { MatchOption result (shapes.now.count ≤ t) (λ p. (t < shapes.now.count) × (p ≡ list_part t (shape_of shapes.now t))) }
 {
-    let Some(shape) = shapes.get(t) else {
-        return false;
-    };
-    parts[at] = Part {
+    let shape = shapes.get(t)?;
+    Some(Part {
         sign: Sign::Rows(t),
         lines: shape.lines as u64,
         width: shape.width,
         cost: 0,
-    };
-    true
+    })
 }
 
-// Writes the part of a sign with one question behind it, if its columns fit.
-fn put_one(one: One, at: usize, parts: &mut [Part]) -> bool
-    requires within { at + 1 < length parts.old }
-    requires lines { (part_at parts.old (at + 1)).lines ≤ 2 ^ 48 }
-    requires cost { (part_at parts.old (at + 1)).cost ≤ 2 ^ 57 }
-    ensures fits { result ≡ one_fits one (part_at parts.old (at + 1)).width }
-    ensures put { Put result at (one_part one (part_at parts.old (at + 1))) parts.old parts.new }
+// The part of a sign with one question behind it, if its columns fit.
+fn one_part(one: One, p: Part) -> Option<Part>
+    requires lines { p.lines ≤ 2 ^ 48 }
+    requires cost { p.cost ≤ 2 ^ 57 }
+    ensures { MatchOption result (false ≡ one_fits one p.width) (λ part. (true ≡ one_fits one p.width) × (part ≡ one_part one p)) }
 {
-    let p = parts[at + 1];
     match one {
-        One::Test(test) => {
-            if !test_fits(test, p.width) {
-                return false;
-            }
-            parts[at] = Part {
-                sign: Sign::Keep(test),
-                lines: p.lines,
-                width: p.width,
-                cost: p.cost + 3 * p.lines,
-            };
-        }
+        One::Test(test) => test_fits(test, p.width).then_some(Part {
+            sign: Sign::Keep(test),
+            cost: p.cost + 3 * p.lines,
+            ..p
+        }),
         One::Cut(k, columns) => {
-            if k < 1 || k > 4 || !columns_fit(columns, k, p.width) {
-                return false;
-            }
-            parts[at] = Part {
+            let fits = k >= 1 && k <= 4 && columns_fit(columns, k, p.width);
+            fits.then_some(Part {
                 sign: Sign::Columns(columns),
-                lines: p.lines,
                 width: k,
-                cost: p.cost,
-            };
+                ..p
+            })
         }
     }
-    true
 }
 
-// Writes the part of a sign with two questions behind it, if they go together.
-fn put_pair(pair: Pair, at: usize, second: usize, parts: &mut [Part]) -> bool
-    requires within { (at + 1 < second) × (second < length parts.old) }
-    requires lines { ((part_at parts.old (at + 1)).lines ≤ 2 ^ 48) × ((part_at parts.old second).lines ≤ 2 ^ 48) × ((part_at parts.old (at + 1)).lines * (part_at parts.old second).lines ≤ 2 ^ 48) }
-    requires width { ((part_at parts.old (at + 1)).width ≤ 8) × ((part_at parts.old second).width ≤ 8) }
-    requires cost { ((part_at parts.old (at + 1)).cost ≤ 2 ^ 57) × ((part_at parts.old second).cost ≤ 2 ^ 57) }
-    ensures fits { result ≡ pair_fits pair (part_at parts.old (at + 1)).width (part_at parts.old second).width }
-    ensures put { Put result at (pair_part pair (second - at) (part_at parts.old (at + 1)) (part_at parts.old second)) parts.old parts.new }
+// The part of a sign with two questions behind it, the second so many parts further on, if they go together.
+fn pair_part(pair: Pair, second: usize, p: Part, q: Part) -> Option<Part>
+    requires lines { (p.lines ≤ 2 ^ 48) × ((q.lines ≤ 2 ^ 48) × (p.lines * q.lines ≤ 2 ^ 48)) }
+    requires width { (p.width ≤ 8) × (q.width ≤ 8) }
+    requires cost { (p.cost ≤ 2 ^ 57) × (q.cost ≤ 2 ^ 57) }
+    ensures { MatchOption result (false ≡ pair_fits pair p.width q.width) (λ part. (true ≡ pair_fits pair p.width q.width) × (part ≡ pair_part pair second p q)) }
 {
-    let p = parts[at + 1];
-    let q = parts[second];
     let pairs = p.lines * q.lines;
     let cost = p.cost + q.cost;
-    let behind = second - at;
     match pair {
-        Pair::Joined => {
-            if p.width + q.width > 8 {
-                return false;
-            }
-            parts[at] = Part {
-                sign: Sign::Join(behind),
-                lines: pairs,
-                width: p.width + q.width,
-                cost: cost + pairs,
-            };
-        }
-        Pair::United => {
-            if p.width != q.width {
-                return false;
-            }
-            parts[at] = Part {
-                sign: Sign::Union(behind),
-                lines: p.lines + q.lines,
-                width: p.width,
-                cost,
-            };
-        }
-        Pair::Less => {
-            if p.width != q.width {
-                return false;
-            }
-            parts[at] = Part {
-                sign: Sign::Without(behind),
-                lines: p.lines,
-                width: p.width,
-                cost: cost + pairs * (2 * p.width as u64 + 3),
-            };
-        }
+        Pair::Joined => (p.width + q.width <= 8).then_some(Part {
+            sign: Sign::Join(second),
+            lines: pairs,
+            width: p.width + q.width,
+            cost: cost + pairs,
+        }),
+        Pair::United => (p.width == q.width).then_some(Part {
+            sign: Sign::Union(second),
+            lines: p.lines + q.lines,
+            width: p.width,
+            cost,
+        }),
+        Pair::Less => (p.width == q.width).then_some(Part {
+            sign: Sign::Without(second),
+            lines: p.lines,
+            width: p.width,
+            cost: cost + pairs * (2 * p.width as u64 + 3),
+        }),
     }
-    true
 }

@@ -1,15 +1,11 @@
-use Rattle.std.proofs.Common.{◌≡◌, sym, arith}
-use Rattle.query.proofs.Columns.{below_none, below_more, below_fails}
+use Rattle.std.proofs.Common.{ltb, ◌∙◌, rules, tests}
+use Rattle.std.proofs.lemmas.Iterator.{YieldsList-from_slice}
+use Rattle.std.proofs.lemmas.Iterator.Search.{all_from_yields_List}
+use Rattle.query.proofs.Columns.{each_below}
 use Rattle.query.proofs.reading.columns_fit.Goals as goal
 
-pub loop-i-init : goal.loop-i-init
-loop-i-init c = below_none c.args.w c.args.columns
-
-pub loop-i-preserved : goal.loop-i-preserved
-loop-i-preserved c = below_more c.args.w c.args.columns c.loop-i.i (omega arith) (omega arith) c.loop-i.invariant
-
-pub returns-then-columns-i : goal.returns-then-columns-i
-returns-then-columns-i c = sym (below_fails c.args.w c.args.columns c.loop-i.i c.args.k (omega arith) (omega arith) (omega arith))
-
 pub returns : goal.returns
-returns c = let e : c.loop-i.i ≡ c.args.k = omega arith in sym (rw e at c.loop-i.invariant)
+returns c =
+    let w = c.args.w in
+    all_from_yields_List (λ a. ltb a w) _ _ _ c.all.ensures.ran (YieldsList-from_slice _ c.iter.ensures.rest) (λ x b q k. search (rules, tests))
+    ∙ each_below w _

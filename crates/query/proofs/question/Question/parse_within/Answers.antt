@@ -7,15 +7,15 @@ use Rattle.query.proofs.question.Question.parse_within.Goals as goal
 pub read-requires : goal.read-requires
 read-requires c =
     let l : length c.front.result.now ≤ 96 = rw c.front.ensures (simp length-take (omega arith)) in
-    record { long = refl; few = omega (arith, l); shapes = c.requires }
+    record { long = refl; few = omega (arith, l) }
 
 pub overflow_mul-next : goal.overflow_mul-next
-overflow_mul-next c = omega (arith, ends_within 16 (pairs_of c.args.shapes) 0 _ _ c.read.new.parts c.in-Ok.p.next _ (omega arith) c.in-Ok.ensures)
+overflow_mul-next c = omega (arith, ends_within 16 (pairs_of c.args.shapes) 0 _ _ c.read.new.parts c.in_ok-next.field-0.next _ (omega arith) c.in_ok-next.ensures)
 
 pub returns : goal.returns
 returns c =
-    let r = rw c.front.ensures at c.in-Ok.ensures in
+    let r = rw c.front.ensures at c.in_ok-next.ensures in
     record {
-      refusal = whole_told (pairs_of c.args.shapes) (take 96 c.args.signs.now) c.args.signs.now _ c.read.new.parts c.in-Ok.p.next c.in-Ok.p.rest.now r (omega arith);
-      value = parses (pairs_of c.args.shapes) (take 96 c.args.signs.now) _ c.read.new.parts c.in-Ok.p.next c.in-Ok.p.rest.now r c.in-Ok.ensures.long;
+      refusal = whole_told (pairs_of c.args.shapes) (take 96 c.args.signs.now) c.args.signs.now _ c.read.new.parts c.in_ok-next.field-0.next c.in_ok-next.field-0.rest.now r (omega arith);
+      value = parses (pairs_of c.args.shapes) (take 96 c.args.signs.now) _ c.read.new.parts c.in_ok-next.field-0.next c.in_ok-next.field-0.rest.now r c.in_ok-next.ensures.long;
     }
