@@ -8,6 +8,7 @@ pub mod Telling
 pub mod Shaping
 pub mod Left
 pub mod Added
+pub mod Filtered
 pub mod Firsts
 pub mod Questions
 pub mod Told

@@ -1,6 +1,6 @@
 // A question asked of filled lists: plain rows in, plain rows out.
-ghost use Rattle.std.specs.Prelude.{◌≡◌, [], ◌∷◌, ◌++◌, take, drop, IfOk, OnOk, slice_index, slice_index_or};
-ghost use Rattle.list.specs.Lists.{same_row, stands};
+ghost use Rattle.std.specs.Prelude.{◌≡◌, Bool, [], ◌∷◌, ◌++◌, filter, take, drop, IfOk, OnOk, slice_index, slice_index_or};
+ghost use Rattle.list.specs.Lists.{Row, same_row, stands};
 ghost use Rattle.list.specs.Shapes.{rows_of};
 ghost use Rattle.query.specs.Ask.{ask, passes, kept, at_columns, cut_to, beside, joined, less};
 ghost use Rattle.query.specs.Rows.{rows_in, tables_in};
@@ -58,10 +58,9 @@ pub(crate) fn table(
 ) -> Result<Vec<Vec<u64>>, AllocError>
     ensures { IfOk result (λ v. rows_of v ≡ slice_index_or (tables_in tables.now) t []) }
 {
-    if t < tables.len() {
-        copied(heap, tables[t].as_slice())
-    } else {
-        Ok(Vec::new(heap))
+    match tables.get(t) {
+        Some(rows) => copied(heap, rows.as_slice()),
+        None => Ok(Vec::new(heap)),
     }
 }
 
@@ -69,14 +68,7 @@ pub(crate) fn table(
 pub(crate) fn kept(heap: Global, test: Test, rows: &[Vec<u64>]) -> Result<Vec<Vec<u64>>, AllocError>
     ensures { IfOk result (λ v. rows_of v ≡ kept (test_of test) (rows_in rows.now)) }
 {
-    let mut out = Vec::new(heap);
-    for row in rows {
-        let numbers = row.as_slice();
-        if passes(test, numbers) {
-            add_row(heap, &mut out, numbers)?;
-        }
-    }
-    Ok(out)
+    filtered(heap, rows, |row| passes(test, row))
 }
 
 // Of each row these columns.
@@ -131,10 +123,22 @@ pub(crate) fn less(
 ) -> Result<Vec<Vec<u64>>, AllocError>
     ensures { IfOk result (λ v. rows_of v ≡ less (rows_in rows.now) (rows_in others.now)) }
 {
+    filtered(heap, rows, |row| !stands(row, others))
+}
+
+// The rows that are to be kept.
+fn filtered<F: Fn(&[u64]) -> bool>(
+    heap: Global,
+    rows: &[Vec<u64>],
+    keep: F,
+) -> Result<Vec<Vec<u64>>, AllocError>
+    requires { F.IsAlwaysCallable keep }
+    ensures { (test : Row → Bool) → ((row b : _) → F.post keep row b → b ≡ test row.now) → IfOk result (λ v. rows_of v ≡ filter test (rows_in rows.now)) }
+{
     let mut out = Vec::new(heap);
     for row in rows {
         let numbers = row.as_slice();
-        if !stands(numbers, others) {
+        if keep(numbers) {
             add_row(heap, &mut out, numbers)?;
         }
     }
@@ -166,12 +170,7 @@ pub(crate) fn passes(test: Test, row: &[u64]) -> bool
 pub fn stands(row: &[u64], rows: &[Vec<u64>]) -> bool
     ensures { result ≡ stands row.now (rows_in rows.now) }
 {
-    for other in rows {
-        if same_row(row, other.as_slice()) {
-            return true;
-        }
-    }
-    false
+    rows.iter().any(|other| same_row(row, other.as_slice()))
 }
 
 // Whether two rows are equal.
@@ -204,18 +203,14 @@ fn cut_to_first(
 fn at_columns(heap: Global, columns: &[usize], row: &[u64]) -> Result<Vec<u64>, AllocError>
     ensures { IfOk result (λ v. v.items ≡ at_columns columns.now row.now) }
 {
-    let mut out = Vec::new(heap);
-    for a in columns {
-        out.push(column(row, *a))?;
-    }
-    Ok(out)
+    columns.iter().map(|a| column(row, *a)).collect(heap)
 }
 
 // The number in a column; 0 past the end of the row.
 fn column(row: &[u64], a: usize) -> u64
     ensures { result ≡ slice_index row.now a }
 {
-    if a < row.len() { row[a] } else { 0 }
+    row.get(a).copied().unwrap_or(0)
 }
 
 // Adds a row followed by each of the others.

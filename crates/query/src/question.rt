@@ -83,9 +83,12 @@ impl Question {
         ensures refusal { outcome result ≡ first (question_told (reads 16 (pairs_of shapes) 0 (take 96 signs.now)) signs.now) (size_told (sized (reads 16 (pairs_of shapes) 0 (take 96 signs.now)))) }
         ensures value { IfOk result (λ q. Stands (pairs_of shapes) (reads 16 (pairs_of shapes) 0 (take 96 signs.now)) q.parts q.signs) }
     {
-        let question = Question::parse_within(shapes, signs)?;
+        let parsed = Question::parse_within(shapes, signs);
+        let Ok(question) = parsed else {
+            return parsed;
+        };
         question.check_size()?;
-        Ok(question)
+        parsed
     }
 
     // The question that the signs ask of lists of these shapes, however large; or the sign at which it can't be read.

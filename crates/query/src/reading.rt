@@ -81,7 +81,9 @@ pub(crate) fn read<'a>(
     if left == 0 || signs.len() < 6 {
         return Err(bad);
     }
-    let token = token_at(signs).ok_or(bad)?;
+    let Some(token) = token_at(signs) else {
+        return Err(bad);
+    };
     let behind = &signs[6..];
     match token {
         Token::Listed(t) => {

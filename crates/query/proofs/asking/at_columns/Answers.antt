@@ -1,15 +1,14 @@
-use Rattle.std.proofs.Common.{vec_items, arith}
-use Rattle.std.proofs.lemmas.List.{drop_more, drop_all}
-use Rattle.query.proofs.Added.{added_one, added_end}
-use Rattle.query.proofs.Firsts.{column_first, column_none}
+use Rattle.std.proofs.Common.{◌≡◌, map, get_or, vec_items, ◌∙◌, rules, tests}
+use Rattle.std.proofs.lemmas.Iterator.{YieldsList-from_slice, YieldsList-from_map, items_from_collect}
+use Rattle.std.proofs.lemmas.Result.{IfOk-weaker}
+use Rattle.query.specs.Ask.{at_columns}
+use Rattle.query.proofs.Filtered.{map_columns}
 use Rattle.query.proofs.asking.at_columns.Goals as goal
 
-pub loop-a-preserved : goal.loop-a-preserved
-loop-a-preserved c =
-    let e = column_first _ _ _ c.args.row.now (drop_more c.args.columns.now c.loop-a.a-index 0 (omega arith)) in
-    let k = c.column.ensures in
-    let a = c.in_ok-push.ensures.items in
-    added_one (vec_items c.loop-a.out) (vec_items c.push.new.self) _ _ _ _ c.loop-a.invariant e (cc)
-
 pub returns : goal.returns
-returns c = added_end _ _ _ c.loop-a.invariant (column_none _ c.args.row.now (drop_all c.loop-a.a-index c.args.columns.now (omega arith)))
+returns c =
+    let row = c.args.row.now in let cs = c.args.columns.now in
+    let m = items_from_collect c.collect.result c.collect.ensures.ran
+    (YieldsList-from_map _ (λ a. get_or row a 0) (YieldsList-from_slice cs (rw c.map.ensures.source c.iter.ensures.rest)) c.map.ensures.closure
+    (λ x r q k. search (rules, tests))) in
+    IfOk-weaker c.collect.result (λ w. vec_items w ≡ map (λ a. get_or row a 0) cs) (λ w. vec_items w ≡ at_columns cs row) (λ w h. h ∙ map_columns row cs) m

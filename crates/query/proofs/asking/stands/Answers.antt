@@ -1,19 +1,12 @@
-use Rattle.std.proofs.Common.{arith}
-use Rattle.query.proofs.Firsts.{stands_first, stands_none}
-use Rattle.query.proofs.Left.{rows_more, rows_end}
+use Rattle.std.proofs.Common.{vec_items, ◌∙◌, rules, tests}
+use Rattle.std.proofs.lemmas.Iterator.{YieldsList-from_slice}
+use Rattle.std.proofs.lemmas.Iterator.Search.{any_from_yields_List}
+use Rattle.list.specs.Lists.{same_row}
+use Rattle.query.proofs.Filtered.{any_stands}
 use Rattle.query.proofs.asking.stands.Goals as goal
 
-pub returns-then-same_row : goal.returns-then-same_row
-returns-then-same_row c =
-    let m = rows_more c.args.rows.now c.loop-other.other-index c.other-item.result c.as_slice.result.now (omega arith) c.other-item.is c.as_slice.ensures.value in
-    let e = stands_first _ _ _ m c.args.row.now in
-    grind arith
-
-pub loop-other-preserved : goal.loop-other-preserved
-loop-other-preserved c =
-    let m = rows_more c.args.rows.now c.loop-other.other-index c.other-item.result c.as_slice.result.now (omega arith) c.other-item.is c.as_slice.ensures.value in
-    let e = stands_first _ _ _ m c.args.row.now in
-    grind arith
-
 pub returns : goal.returns
-returns c = let e = stands_none _ (rows_end c.args.rows.now c.loop-other.other-index (omega arith)) c.args.row.now in grind arith
+returns c =
+    let row = c.args.row.now in
+    any_from_yields_List (λ v. same_row row (vec_items v)) _ _ _ c.any.ensures.ran (YieldsList-from_slice _ c.iter.ensures.rest) (λ x b q k. search (rules, tests))
+    ∙ any_stands row _
