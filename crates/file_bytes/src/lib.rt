@@ -31,35 +31,25 @@ impl<'a> Input<'a> {
     pub fn byte(&mut self) -> Option<u8>
         ensures { Taken 1 self.old.rest.now (λ bs. slice_index bs 0) result self.new.rest.now }
     {
-        let rest = self.rest;
-        if rest.len() < 1 {
-            return None;
-        }
-        self.rest = &rest[1..];
-        Some(rest[0])
+        let (first, behind) = self.rest.split_first()?;
+        self.rest = behind;
+        Some(*first)
     }
 
     // The number in the next four bytes, low byte first; nothing is read where they are not all there.
     pub fn number(&mut self) -> Option<u64>
         ensures { Taken 4 self.old.rest.now number_at result self.new.rest.now }
     {
-        let rest = self.rest;
-        if rest.len() < 4 {
-            return None;
-        }
-        self.rest = &rest[4..];
-        let low = u64::from(rest[0]) + 256 * u64::from(rest[1]);
-        let high = u64::from(rest[2]) + 256 * u64::from(rest[3]);
-        Some(low + 65536 * high)
+        let (four, rest) = self.rest.split_first_chunk::<4>()?;
+        self.rest = rest;
+        Some(u64::from(u32::from_le_bytes(*four)))
     }
 
     // The next number, put behind those in `numbers`; refused with `missing` where none is left.
     pub fn next(&mut self, numbers: &mut Vec<u64>, missing: Refusal) -> Result<u64, Refusal>
         ensures { IfOk result (λ n. (n ≡ number_at self.old.rest.now) × ReadOn 1 self.old.rest.now numbers.old.items self.new.rest.now numbers.new.items) }
     {
-        let Some(number) = self.number() else {
-            return Err(missing);
-        };
+        let number = self.number().ok_or(missing)?;
         numbers.push(number)?;
         Ok(number)
     }
