@@ -24,15 +24,6 @@ first_assoc (Some t) b c = refl
 after : (a b : Told) → a ≡ None → first a b ≡ b
 after a b e = rw e refl
 
-front : (n : ℕ) (ss : List (ℕ × ℕ)) (u : ℕ) (ps : List Part) → Parted n ss u ps → parts.Numbers (part_at ps 0) (sized_of n ss ps)
-unfolding Parted
-front zero ss u ps p = absurd p
-front (suc n) ss u ps p = p.1
-
--- the first part has the question's numbers
-pub stands_front : (ss : List (ℕ × ℕ)) (r : Read) (ps : List Part) (n : ℕ) → Stands ss r ps n → parts.Numbers (part_at ps 0) (sized r)
-stands_front ss r ps n s = rw s.sizes at (front 16 ss n ps s.parts)
-
 module _ (lists signs nodes out : List ℕ) where
   abbrev s : Sized
   s = question lists signs
@@ -107,12 +98,11 @@ module _ (lists signs nodes out : List ℕ) where
       }
 
 -- its lines are at most eight cells wide
-pub narrow : (lists signs nodes : List ℕ) (sh : Shapes) → AllShaped lists sh → None ≡ check_told lists nodes → (ps : List Part) (n : ℕ) →
-    Stands (shapes lists) (asked lists signs) ps n → (part_at ps 0).width ≤ 8
-narrow lists signs nodes sh shaped e ps n s =
+pub narrow : {lists : List ℕ} (nodes : List ℕ) {sh : Shapes} {r : Read} {ps : List Part} {n : ℕ} → AllShaped lists sh → None ≡ check_told lists nodes → Stands (shapes lists) r ps n → (part_at ps 0).width ≤ 8
+narrow {lists = lists} nodes {sh = sh} {ps = ps} {n = n} shaped e st =
     let f = first_none (lists_told lists) (first (store_told nodes) (named_told lists nodes)) (sym e) in
     let g = first_none (store_told nodes) (named_told lists nodes) f.1 in
-    let p = planned_at shaped {k = count nodes} refl g.1 16 n ps refl s.parts (rw s.sizes s.cost) in
+    let p = planned_at shaped {k = count nodes} refl g.1 16 n ps refl st.parts (rw st.sizes st.cost) in
     let m = (counted 16 sh ps p.sound.counted).1 in omega (arith, m.width, m.narrow)
 
 -- a reply with an answer

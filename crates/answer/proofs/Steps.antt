@@ -4,10 +4,10 @@ use Rattle.std.proofs.lemmas.Bool.{cases_lt}
 use Rattle.condition.specs.Cond.{Cell, Cond, equal, not_so, both}
 use Rattle.condition.specs.Store.{count, cond_at, has_name, comparison, Grown}
 use Rattle.condition.proofs.Growing.{grown_self, grown_cond, grown_trans}
-use Rattle.answer.specs.declared.side.Side.{Side}
+use Rattle.answer.specs.declared.less.Less.{Less}
 use Rattle.answer.specs.Plan.{many, wide, less_size, rid, equals}
 use Rattle.answer.specs.Sides.{plan, node, cells}
-use Rattle.answer.specs.Laid.{Based, Stand, New, Last, Added, now_at, last_of, less, each}
+use Rattle.answer.specs.Laid.{Based, Stand, New, Last, Added, Ready, now_at, last_of, each, less_one, less}
 
 pub rid_same : (m w : ℕ) (f : ℕ → Cell) (d e : ℕ → Cond) (g : ℕ → ℕ → Cell) (a b : Cond) → ((j : ℕ) → j < m → d j ≡ e j) → a ≡ b → rid m w f d g a ≡ rid m w f e g b
 unfolding rid
@@ -19,9 +19,6 @@ based_grown c ns ns₁ g b = record {
   low = omega (arith, b.low, g.more);
   always = grown_cond ns ns₁ g c (omega (arith, b.low)) ∙ b.always;
 }
-
-pub added_none : (g : ℕ → Cond) (k : ℕ) (ns : List ℕ) → 1 + 5 * count ns ≤ length ns → Added g k 0 ns ns
-added_none g k ns l = record { grown = grown_self ns l; more = omega (arith, zero-mul k); within = λ i m. absurd (omega arith); is = λ i m. absurd (omega arith) }
 
 -- one line more
 pub added_more : {g : ℕ → Cond} {k n : ℕ} {d : Cond} {ns ns₁ ns₂ : List ℕ} → Added g k n ns ns₁ → Last k d ns₁ ns₂ → d ≡ g n → Added g k (n + 1) ns ns₂
@@ -74,32 +71,37 @@ spare_turn w c d e f g r b x ns ns₁ ns₂ ns₃ ns₄ lc ld eb p q s t =
     (rw (grown_cond ns ns₃ g₃ c lc, s.is, q.is, p.is, grown_cond ns ns₁ p.grown d ld, eb) refl)
     (new_trans (2 * w) (1 + (1 + 1)) e r _ _ ns ns₁ ns₄ p (new_trans 1 (1 + 1) f r _ _ ns₁ ns₂ ns₄ q (new_trans 1 1 g r _ _ ns₂ ns₃ ns₄ s t)))
 
-module _ (p q : Side) where
-  pub less_none : (i x : ℕ) (ns : List ℕ) → 1 + 5 * count ns ≤ length ns → x ≡ node p i → node p i < count ns → New (less_size (wide (plan p)) 0) x (less ns p q 0 i) ns ns
-  unfolding rid
-  less_none i x ns l e m = record { grown = grown_self ns l; more = omega (arith, zero-mul (2 * wide (plan p) + 3)); within = omega (arith, e); is = rw e refl }
+module _ (l : Less) where
+  pub ready_grown : {ns ns₁ : List ℕ} → Grown ns ns₁ → Ready l ns → Ready l ns₁
+  ready_grown {ns = ns} {ns₁ = ns₁} g r = record {
+    based = based_grown l.p.asked.first ns ns₁ g r.based;
+    first = λ i m. omega (arith, g.more, r.first i m);
+    second = λ i m. omega (arith, g.more, r.second i m);
+  }
 
-  pub less_more : (i j x y : ℕ) (ns ns₁ ns₂ : List ℕ) → node q j < count ns
-      → New (less_size (wide (plan p)) j) x (less ns p q j i) ns ns₁
-      → New (2 * wide (plan p) + 3) y (both (cond_at ns₁ x) (not_so (both (now_at ns₁ q j) (equals (wide (plan p)) 0 (cells p i) (cells q j))))) ns₁ ns₂
-      → New (less_size (wide (plan p)) (j + 1)) y (less ns p q (j + 1) i) ns ns₂
+  pub less_none : (i x : ℕ) (ns : List ℕ) → 1 + 5 * count ns ≤ length ns → x ≡ node l.p i → node l.p i < count ns → New (less_size (wide (plan l.p)) 0) x (less ns l 0 i) ns ns
   unfolding rid
-  less_more i j x y ns ns₁ ns₂ l a w =
-      new_as (less_size (wide (plan p)) j + (2 * wide (plan p) + 3)) (less_size (wide (plan p)) (j + 1)) y _ _ ns ns₂ (rw add-one (omega (arith, suc-mul j (2 * wide (plan p) + 3))))
-      (rw (a.is, grown_cond ns ns₁ a.grown (node q j) l, add-one j) refl)
-      (new_trans (less_size (wide (plan p)) j) (2 * wide (plan p) + 3) x y _ _ ns ns₁ ns₂ a w)
+  less_none i x ns h e m = record { grown = grown_self ns h; more = omega (arith, zero-mul (2 * wide (plan l.p) + 3)); within = omega (arith, e); is = rw e refl }
 
-  pub less_all : (i j x : ℕ) (ns ns₁ : List ℕ) → j ≡ many (plan q) → New (less_size (wide (plan p)) j) x (less ns p q j i) ns ns₁ → x + 1 ≡ count ns₁
-      → Last (each p q) (less ns p q (many (plan q)) i) ns ns₁
+  pub less_more : (i j x y : ℕ) (ns ns₁ ns₂ : List ℕ) → node l.q j < count ns → New (less_size (wide (plan l.p)) j) x (less ns l j i) ns ns₁
+      → New (2 * wide (plan l.p) + 3) y (less_one ns₁ l i j x) ns₁ ns₂ → New (less_size (wide (plan l.p)) (j + 1)) y (less ns l (j + 1) i) ns ns₂
+  unfolding rid
+  less_more i j x y ns ns₁ ns₂ h a w =
+      new_as (less_size (wide (plan l.p)) j + (2 * wide (plan l.p) + 3)) (less_size (wide (plan l.p)) (j + 1)) y _ _ ns ns₂ (rw add-one (omega (arith, suc-mul j (2 * wide (plan l.p) + 3))))
+      (rw (a.is, grown_cond ns ns₁ a.grown (node l.q j) h, add-one j) refl)
+      (new_trans (less_size (wide (plan l.p)) j) (2 * wide (plan l.p) + 3) x y _ _ ns ns₁ ns₂ a w)
+
+  pub less_all : (i j x : ℕ) (ns ns₁ : List ℕ) → j ≡ many (plan l.q) → New (less_size (wide (plan l.p)) j) x (less ns l j i) ns ns₁ → x + 1 ≡ count ns₁
+      → Last (each l) (less ns l (many (plan l.q)) i) ns ns₁
   less_all i j x ns ns₁ e a k =
-      let h : New (each p q) x (less ns p q (many (plan q)) i) ns ns₁ = subst (λ m. New (less_size (wide (plan p)) m) x (less ns p q m i) ns ns₁) e a in
-      let z : x ≡ count ns + each p q - 1 = omega (arith, h.more, k) in
-      subst (λ t. New (each p q) t (less ns p q (many (plan q)) i) ns ns₁) z h
+      let h : New (each l) x (less ns l (many (plan l.q)) i) ns ns₁ = subst (λ m. New (less_size (wide (plan l.p)) m) x (less ns l m i) ns ns₁) e a in
+      let z : x ≡ count ns + each l - 1 = omega (arith, h.more, k) in
+      subst (λ t. New (each l) t (less ns l (many (plan l.q)) i) ns ns₁) z h
 
   -- what a line says does not change as the store grows
-  pub less_same : (i : ℕ) (ns ns₁ : List ℕ) → Grown ns ns₁ → node p i < count ns → Stand q (count ns) → less ns₁ p q (many (plan q)) i ≡ less ns p q (many (plan q)) i
-  less_same i ns ns₁ g l m =
-      rid_same (many (plan q)) (wide (plan p)) (cells p i) _ _ (cells q) _ _ (λ j h. grown_cond ns ns₁ g (node q j) (m j h)) (grown_cond ns ns₁ g (node p i) l)
+  pub less_same : (i : ℕ) (ns ns₁ : List ℕ) → Grown ns ns₁ → Ready l ns → i < many (plan l.p) → less ns₁ l (many (plan l.q)) i ≡ less ns l (many (plan l.q)) i
+  less_same i ns ns₁ g r m =
+      rid_same (many (plan l.q)) (wide (plan l.p)) (cells l.p i) _ _ (cells l.q) _ _ (λ j h. grown_cond ns ns₁ g (node l.q j) (r.second j h)) (grown_cond ns ns₁ g (node l.p i) (r.first i m))
 
 -- a pair of lines, by its number
 some_lines : (i n m : ℕ) → i < n * m → 0 < m

@@ -6,8 +6,9 @@ use Rattle.condition.specs.Store.{count, cond_at}
 use Rattle.condition.proofs.Growing.{grown_self, grown_cond, grown_trans}
 use Rattle.query.specs.Ask.{Test}
 use Rattle.answer.specs.declared.side.Side.{Side}
+use Rattle.answer.specs.declared.less.Less.{Less}
 use Rattle.answer.specs.declared.side.Asked.{Asked}
-use Rattle.answer.specs.Plan.{Plan, list, keep, columns, join, union, without, many, wide, size, place, cell, says, tests, rid, Fits}
+use Rattle.answer.specs.Plan.{Plan, list, keep, columns, join, union, without, many, wide, size, place, cell, says, tests, less_size, rid, Fits}
 use Rattle.answer.specs.Sides.{plan, cells, Under, One, Two}
 use Rattle.answer.specs.Laid.{Based, Added, Laid, now_at, last_of, kept, joined, less, each}
 use Rattle.answer.proofs.Steps.{rid_same, pair_in}
@@ -76,9 +77,6 @@ module _ {s p q : Side} {up : Plan} (o : Two s up p q) {ns ns₁ ns₂ : List �
   counts : count ns₂ ≡ s.base + size (plan p) + size (plan q)
   counts = omega (arith, a.more, b.more)
 
-  more_first : count ns₁ ≤ count ns₂
-  more_first = omega (arith, b.more)
-
 pub laid_union : {s p q : Side} {ns ns₁ ns₂ : List ℕ} → Two s (union (plan p) (plan q)) p q → s.base ≡ count ns → s.asked.first ≤ count ns → Laid p ns ns₁ → Laid q ns₁ ns₂ → Laid s ns ns₂
 unfolding place says
 laid_union {s = s} {p = p} {q = q} {ns = ns} {ns₁ = ns₁} {ns₂ = ns₂} o base low a b = let v = union_sums o in record {
@@ -113,7 +111,7 @@ laid_join {s = s} {p = p} {q = q} {ns = ns} {ns₁ = ns₁} {ns₂ = ns₂} {ns�
 pub laid_none : {s p q : Side} {ns ns₁ ns₂ : List ℕ} → Two s (without (plan p) (plan q)) p q → s.base ≡ count ns → s.asked.first ≤ count ns → Laid p ns ns₁ → Laid q ns₁ ns₂ → many (plan q) ≡ 0 → Laid s ns ns₂
 unfolding place says rid
 laid_none {s = s} {p = p} {q = q} {ns = ns} {ns₁ = ns₁} {ns₂ = ns₂} o base low a b z =
-    let v = without_sums o in let none : many (plan p) * each p q ≡ 0 = rw (z, zero-mul (2 * wide (plan p) + 3), mul-zero (many (plan p))) refl in
+    let v = without_sums o in let none : many (plan p) * less_size (wide (plan p)) (many (plan q)) ≡ 0 = rw (z, zero-mul (2 * wide (plan p) + 3), mul-zero (many (plan p))) refl in
     record {
       grown = grown_trans ns ns₁ ns₂ a.grown b.grown;
       more = omega (arith, a.more, b.more, v.size);
@@ -121,18 +119,18 @@ laid_none {s = s} {p = p} {q = q} {ns = ns} {ns₁ = ns₁} {ns₂ = ns₂} o ba
       is = λ i m. rw (o.is, z) (first_is o base low a b i (omega (arith, v.lines)));
     }
 
-pub laid_less : {s p q : Side} {ns ns₁ ns₂ ns₃ : List ℕ} → Two s (without (plan p) (plan q)) p q → s.base ≡ count ns → s.asked.first ≤ count ns → Laid p ns ns₁ → Laid q ns₁ ns₂ → (many (plan q) ≡ 0 → ⊥) →
-    Added (less ns₂ p q (many (plan q))) (each p q) (many (plan p)) ns₂ ns₃ → Laid s ns ns₃
+pub laid_less : (l : Less) {s : Side} {ns ns₁ ns₂ ns₃ : List ℕ} → Two s (without (plan l.p) (plan l.q)) l.p l.q → s.base ≡ count ns → s.asked.first ≤ count ns → Laid l.p ns ns₁ → Laid l.q ns₁ ns₂ →
+    Added (less ns₂ l (many (plan l.q))) (each l) (many (plan l.p)) ns₂ ns₃ → Laid s ns ns₃
 unfolding place says
-laid_less {s = s} {p = p} {q = q} {ns = ns} {ns₁ = ns₁} {ns₂ = ns₂} {ns₃ = ns₃} o base low a b some k =
-    let v = without_sums o in let c = counts o base low a b in
+laid_less l {s = s} {ns = ns} {ns₁ = ns₁} {ns₂ = ns₂} {ns₃ = ns₃} o base low a b k =
+    let p = l.p in let q = l.q in let v = without_sums o in let c = counts o base low a b in let some : many (plan l.q) ≡ 0 → ⊥ = λ z. omega (arith, l.some) in
     record {
       grown = grown_trans ns ns₂ ns₃ (grown_trans ns ns₁ ns₂ a.grown b.grown) k.grown;
       more = omega (arith, k.more, v.size);
-      within = λ i m. rw (o.is, ne_eqb (many (plan q)) 0 some) (subst (λ t. last_of t (each p q) i < count ns₃) c (k.within i (omega (arith, v.lines))));
-      is = λ i m. let l : i < many (plan p) = omega (arith, v.lines) in rw (o.is, ne_eqb (many (plan q)) 0 some)
-          (subst (λ t. cond_at ns₃ (last_of t (each p q) i) ≡ says ns s.asked.lists.now (without (plan p) (plan q)) i) c
-          (k.is i l ∙ (rid_same (many (plan q)) (wide (plan p)) (cells p i) _ _ (cells q) _ _ (λ j h. second_now o base low a b j h) (first_now o base low a b i l)
+      within = λ i m. rw (o.is, ne_eqb (many (plan q)) 0 some) (subst (λ t. last_of t (each l) i < count ns₃) c (k.within i (omega (arith, v.lines))));
+      is = λ i m. let h : i < many (plan p) = omega (arith, v.lines) in rw (o.is, ne_eqb (many (plan q)) 0 some)
+          (subst (λ t. cond_at ns₃ (last_of t (each l) i) ≡ says ns s.asked.lists.now (without (plan p) (plan q)) i) c
+          (k.is i h ∙ (rid_same (many (plan q)) (wide (plan p)) (cells p i) _ _ (cells q) _ _ (λ j m. second_now o base low a b j m) (first_now o base low a b i h)
           ∙ (ap (λ (z : Asked). rid (many (plan q)) (wide (plan p)) (cell z.lists.now (plan p) i) (says ns s.asked.lists.now (plan q)) (cells q) (says ns s.asked.lists.now (plan p) i)) o.first.asked
           ∙ ap (λ (z : Asked). rid (many (plan q)) (wide (plan p)) (cell s.asked.lists.now (plan p) i) (says ns s.asked.lists.now (plan q)) (cell z.lists.now (plan q)) (says ns s.asked.lists.now (plan p) i)) o.second.asked))));
     }

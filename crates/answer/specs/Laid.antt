@@ -7,13 +7,14 @@
 --   Last k d ns ns₁        k nodes more, of which the last says d
 --   Added g k n ns ns₁     k nodes more for each of n lines, of which the last of line i says g i
 --   Laid s ns ns₁          the nodes of the question s are laid
---   kept, joined, less     what line i says: of s with a test, of p joined with q, of p less the first m lines of q
+--   kept, joined, less     what line i says: of s with a test, of p joined with q, of a question less another
 use Rattle.std.specs.Prelude.{◌≡◌, ℕ, ◌+◌, ◌-◌, ◌*◌, ◌/◌, ◌%◌, ◌<◌, ◌≤◌, List, length}
-use Rattle.condition.specs.Cond.{Cond, always, both}
+use Rattle.condition.specs.Cond.{Cond, always, both, not_so}
 use Rattle.condition.specs.Store.{count, cond_at, Grown}
 use Rattle.query.specs.Ask.{Test}
 use Rattle.answer.specs.declared.side.Side.{Side}
-use Rattle.answer.specs.Plan.{many, wide, size, less_size, says, tests, rid}
+use Rattle.answer.specs.declared.less.Less.{Less}
+use Rattle.answer.specs.Plan.{many, wide, size, less_size, says, tests, equals, rid}
 use Rattle.answer.specs.Sides.{plan, node, cells}
 
 abbrev pub Room : ℕ → List ℕ → Type 0
@@ -61,9 +62,24 @@ kept ns s t i = both (now_at ns s i) (tests t (cells s i))
 abbrev pub joined : List ℕ → Side → Side → ℕ → Cond
 joined ns p q i = both (now_at ns p (i / many (plan q))) (now_at ns q (i % many (plan q)))
 
-abbrev pub less : List ℕ → Side → Side → ℕ → ℕ → Cond
-less ns p q m i = rid m (wide (plan p)) (cells p i) (now_at ns q) (cells q) (now_at ns p i)
+-- of the lines of l.p less those of l.q, all that they are made of stands in ns
+pub record Ready (l : Less) (ns : List ℕ) : Type 0 where
+  pub based : Based l.p.asked.first ns
+  pub first : Stand l.p (count ns)
+  pub second : Stand l.q (count ns)
 
--- how many nodes a line of p less those of q takes
-abbrev pub each : Side → Side → ℕ
-each p q = less_size (wide (plan p)) (many (plan q))
+-- how many nodes each line takes
+abbrev pub each : Less → ℕ
+each l = less_size (wide (plan l.p)) (many (plan l.q))
+
+-- line i of l.p and line j of l.q are equal
+abbrev pub equal_lines : Less → ℕ → ℕ → Cond
+equal_lines l i j = equals (wide (plan l.p)) 0 (cells l.p i) (cells l.q j)
+
+-- what the node at c says, and line j of l.q is not there and equal to line i of l.p
+abbrev pub less_one : List ℕ → Less → ℕ → ℕ → ℕ → Cond
+less_one ns l i j c = both (cond_at ns c) (not_so (both (now_at ns l.q j) (equal_lines l i j)))
+
+-- line i of l.p, less the first m lines of l.q
+abbrev pub less : List ℕ → Less → ℕ → ℕ → Cond
+less ns l m i = rid m (wide (plan l.p)) (cells l.p i) (now_at ns l.q) (cells l.q) (now_at ns l.p i)

@@ -2,7 +2,6 @@
 ghost use Rattle.std.specs.Prelude.{◌≡◌, ◌+◌, ◌-◌, ◌*◌, ◌<◌, ◌≤◌};
 ghost use Rattle.condition.specs.Shapes.{cell_of};
 ghost use Rattle.answer.specs.Plan.{many, wide, size};
-ghost use Rattle.answer.specs.Laid.{last_of};
 ghost use Rattle.answer.specs.Sides.{plan, node, cells};
 
 use crate::side::Side;

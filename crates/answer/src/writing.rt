@@ -1,5 +1,5 @@
 // The lines of an answer, written one after the other.
-ghost use Rattle.std.specs.Prelude.{◌≡◌, ℕ, ◌+◌, ◌*◌, ◌<◌, ◌≤◌, ◌⊎◌, length, slice_index};
+ghost use Rattle.std.specs.Prelude.{◌≡◌, ◌+◌, ◌*◌, ◌<◌, ◌≤◌, length, slice_index};
 ghost use Rattle.condition.specs.Store.{cell_in};
 ghost use Rattle.condition.specs.Shapes.{cell_of};
 ghost use Rattle.list.specs.Layout.{line_size};

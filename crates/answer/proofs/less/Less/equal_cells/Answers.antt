@@ -15,8 +15,8 @@ loop-a-init c =
 pub loop-a-preserved : goal.loop-a-preserved
 loop-a-preserved c =
     let p = c.args.self.now.p in let q = c.args.self.now.q in let a = c.loop-a.a - 1 in
-    let x = named p c.args.i a c.requires.first (omega arith) in
-    let y = named q c.args.j a c.requires.second (omega (arith, c.args.self.now.even)) in
+    let x = named p c.args.i a c.requires.lines.0 (omega arith) in
+    let y = named q c.args.j a c.requires.lines.1 (omega (arith, c.args.self.now.even)) in
     equals_turn (cells p c.args.i) (cells q c.args.j) (wide (plan p) - c.loop-a.a) (wide (plan p) - (c.loop-a.a - 1)) a c.loop-a.a c.loop-a.e c.add-s.result c.add-e.result
     c.args.nodes.now c.loop-a.nodes c.add-s.new.nodes c.add-e.new.nodes (omega arith) (omega arith) c.loop-a.invariant
     (new_one _ _ _ _ c.add-s.ensures.place c.add-s.ensures.count c.add-s.ensures.grown (c.add-s.ensures.new ∙ rw (c.cell.ensures, c.cell-in-loop-a.ensures) (compared_is (cells p c.args.i a) (cells q c.args.j a) x y)))

@@ -71,11 +71,16 @@ lay-requires-in-Without-2 t c =
     (omega (arith, o.second.fewer), (based_under o.second (based_grown _ _ _ a.grown c.requires.based), (omega (arith, o.second.base, a.more, c.requires.base), omega (arith, v.size, a.more, a.grown.long))))
 
 pub invariant_of-lay_lines : goal.invariant_of-lay_lines
-invariant_of-lay_lines t c = record { even = without_even c.in-Without.ensures }
+invariant_of-lay_lines t c = record { even = without_even c.in-Without.ensures; some = omega arith }
 
-pub lay_lines-requires-clause-based : goal.lay_lines-requires-clause-based
-lay_lines-requires-clause-based t c =
-    based_under c.in-Without.ensures.first (based_grown _ _ _ c.lay-in-Without-2.ensures.grown (based_grown _ _ _ c.lay-in-Without.ensures.grown c.requires.based))
+pub lay_lines-requires-clause-ready : goal.lay_lines-requires-clause-ready
+lay_lines-requires-clause-ready t c =
+    let a = c.lay-in-Without.ensures in let b = c.lay-in-Without-2.ensures in
+    record {
+      based = based_under c.in-Without.ensures.first (based_grown _ _ _ b.grown (based_grown _ _ _ a.grown c.requires.based));
+      first = λ i l. omega (arith, a.within i l, b.more);
+      second = b.within;
+    }
 
 pub lay_lines-requires-clause-room : goal.lay_lines-requires-clause-room
 lay_lines-requires-clause-room t c =
@@ -83,7 +88,8 @@ lay_lines-requires-clause-room t c =
 
 pub returns-then-lines-gt0 : goal.returns-then-lines-gt0
 returns-then-lines-gt0 t c =
-    laid_less c.in-Without.ensures c.requires.base (omega (arith, c.requires.based.low)) c.lay-in-Without.ensures c.lay-in-Without-2.ensures (omega arith) c.lay_lines.ensures
+    let o = c.in-Without.ensures in
+    laid_less (record { p = c.in-Without.p; q = c.in-Without.q; even = without_even o; some = omega arith }) o c.requires.base (omega (arith, c.requires.based.low)) c.lay-in-Without.ensures c.lay-in-Without-2.ensures c.lay_lines.ensures
 
 pub returns-else-lines-gt0 : goal.returns-else-lines-gt0
 returns-else-lines-gt0 t c = laid_none c.in-Without.ensures c.requires.base (omega (arith, c.requires.based.low)) c.lay-in-Without.ensures c.lay-in-Without-2.ensures (omega arith)
