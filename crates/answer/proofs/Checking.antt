@@ -1,5 +1,5 @@
 -- What is told of a question, from what is told of its parts.
-use Rattle.std.proofs.Common.{◌≡◌, ℕ, zero, suc, ◌+◌, ◌*◌, ◌<◌, ◌≤◌, leb, List, length, Some, None, sym, refl, ap, ◌∙◌, subst, arith}
+use Rattle.std.proofs.Common.{◌≡◌, ℕ, zero, suc, ◌+◌, ◌*◌, ◌<◌, ◌≤◌, leb, List, length, Ok, Some, None, sym, refl, ap, ◌∙◌, subst, arith}
 use Rattle.std.proofs.lemmas.Bool.{le-leb, lt-leb, leb-true, and_parts}
 use Rattle.condition.specs.Refusals.{Told, first, unless}
 use Rattle.condition.specs.Store.{count, store_fits, store_told, room, room_told}
@@ -13,9 +13,8 @@ use Rattle.query.specs.Questions.{Stands}
 use Rattle.query.specs.Reading.{Sized, Read, asked, sized, question_told, size_told}
 use Rattle.query.specs.Shapes.{part_at}
 use Rattle.query.specs.declared.Part.{Part}
-use Rattle.answer.specs.Entry.{question, answer_size, ask_told, Answered, AskLeaves, AskSays}
-use Rattle.answer.specs.declared.Reply.TheVariants.{Done}
-use Rattle.answer.proofs.Views.{numbers}
+use Rattle.answer.specs.Entry.{question, answer_size, ask_told, Passed, Answered, AskLeaves, AskSays}
+use Rattle.answer.proofs.Splitting.{counted}
 use Rattle.answer.proofs.Planning.{planned_at}
 
 first_assoc : (a b c : Told) → first (first a b) c ≡ first a (first b c)
@@ -24,23 +23,6 @@ first_assoc (Some t) b c = refl
 
 after : (a b : Told) → a ≡ None → first a b ≡ b
 after a b e = rw e refl
-
-front : (n : ℕ) (ss : List (ℕ × ℕ)) (u : ℕ) (ps : List Part) → Parted n ss u ps → parts.Numbers (part_at ps 0) (sized_of n ss ps)
-unfolding Parted
-front zero ss u ps p = absurd p
-front (suc n) ss u ps p = p.1
-
--- the first part has the question's numbers
-pub stands_front : (ss : List (ℕ × ℕ)) (r : Read) (ps : List Part) (n : ℕ) → Stands ss r ps n → parts.Numbers (part_at ps 0) (sized r)
-stands_front ss r ps n s = rw s.sizes at (front 16 ss n ps s.parts)
-
--- where nothing is told, everything fits
-pub record Passed (lists signs nodes out : List ℕ) : Type 0 where
-  pub listed : lists_told lists ≡ None
-  pub named : named_told lists nodes ≡ None
-  pub few : count nodes ≤ 131072
-  pub room : 1 + 5 * (count nodes + (question lists signs).cost + 2) ≤ length nodes
-  pub size : answer_size (question lists signs) ≤ length out
 
 module _ (lists signs nodes out : List ℕ) where
   abbrev s : Sized
@@ -94,13 +76,14 @@ module _ (lists signs nodes out : List ℕ) where
           let m : answer_size s ≤ length out = omega arith in
           sym (told_seven n c e f l ∙ rw (le-leb (answer_size s) (length out) m) refl)
 
-  pub passed : None ≡ ask_told lists signs nodes out → Passed lists signs nodes out
+  pub passed : None ≡ ask_told lists signs nodes out → Passed s lists nodes out
   passed e =
       let a = first_none (lists_told lists) _ (sym e) in
       let b = first_none (store_told nodes) _ a.1 in
       let c = first_none (named_told lists nodes) _ b.1 in
       let d = first_none (question_told (asked lists signs) signs) _ c.1 in
       let f = first_none (size_told s) _ d.1 in
+      let l = first_none (unless (leb s.lines 4096) 5 4097) (unless (leb s.cost 65536) 5 65537) f.0 in
       let g = first_none (room_told nodes (s.cost + 2)) seven f.1 in
       let r = leb-true (s.cost + 2) (room nodes) (unless_none (leb (s.cost + 2) (room nodes)) 6 (room nodes) g.0) in
       let h = and_parts (leb (count nodes) 131072) (leb (1 + 5 * count nodes) (length nodes)) (unless_none (store_fits nodes) 2 (count nodes) b.0) in
@@ -108,21 +91,21 @@ module _ (lists signs nodes out : List ℕ) where
       record {
         listed = a.0;
         named = c.0;
+        cheap = leb-true s.cost 65536 (unless_none (leb s.cost 65536) 5 65537 l.1);
         few = leb-true (count nodes) 131072 h.0;
         room = omega arith;
         size = leb-true (answer_size s) (length out) (unless_none (leb (answer_size s) (length out)) 7 (length out) g.1);
       }
 
 -- its lines are at most eight cells wide
-pub narrow : (lists signs nodes : List ℕ) (sh : Shapes) → AllShaped lists sh → None ≡ check_told lists nodes → (ps : List Part) (n : ℕ) →
-    Stands (shapes lists) (asked lists signs) ps n → (part_at ps 0).width ≤ 8
-narrow lists signs nodes sh shaped e ps n s =
+pub narrow : {lists : List ℕ} (nodes : List ℕ) {sh : Shapes} {r : Read} {ps : List Part} {n : ℕ} → AllShaped lists sh → None ≡ check_told lists nodes → Stands (shapes lists) r ps n → (part_at ps 0).width ≤ 8
+narrow {lists = lists} nodes {sh = sh} {ps = ps} {n = n} shaped e st =
     let f = first_none (lists_told lists) (first (store_told nodes) (named_told lists nodes)) (sym e) in
     let g = first_none (store_told nodes) (named_told lists nodes) f.1 in
-    let p = planned_at lists sh shaped (count nodes) (count nodes) refl g.1 16 n ps ps refl s.parts (rw s.sizes s.cost) in
-    let m = numbers p.sound refl in omega (arith, m.width, m.narrow)
+    let p = planned_at shaped {k = count nodes} refl g.1 16 n ps refl st.parts (rw st.sizes st.cost) in
+    let m = (counted 16 sh ps p.sound.counted).1 in omega (arith, m.width, m.narrow)
 
 -- a reply with an answer
-pub says_done : (lists signs nodes out : List ℕ) (n : ℕ) (nodes₁ out₁ : List ℕ) → None ≡ ask_told lists signs nodes out → n ≡ (question lists signs).lines →
-    Answered lists signs nodes out nodes₁ out₁ → AskSays lists signs nodes out (Done n) nodes₁ out₁
-says_done lists signs nodes out n nodes₁ out₁ e l a = subst (λ t. AskLeaves lists signs nodes out t (Done n) nodes₁ out₁) e (ap Done l, a)
+pub says_ok : (lists signs nodes out : List ℕ) (n : ℕ) (nodes₁ out₁ : List ℕ) → None ≡ ask_told lists signs nodes out → n ≡ (question lists signs).lines →
+    Answered (question lists signs) lists nodes out nodes₁ out₁ → AskSays lists signs nodes out (Ok n) nodes₁ out₁
+says_ok lists signs nodes out n nodes₁ out₁ e l a = subst (λ t. AskLeaves lists signs nodes out t (Ok n) nodes₁ out₁) e (ap Ok l, a)

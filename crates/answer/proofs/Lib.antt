@@ -6,6 +6,7 @@ pub mod Tabs
 pub mod Lines
 pub mod Steps
 pub mod Whole
+pub mod Splitting
 pub mod Views
 pub mod Putting
 pub mod Planning

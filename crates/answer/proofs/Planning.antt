@@ -158,8 +158,8 @@ pub record Planned (ls : List ℕ) (sh : Shapes) (c : ℕ) (s : Sized) (n : ℕ)
   pub cost : s.cost ≡ size (plan_of n sh qs)
   pub answers : (ns : List ℕ) → answer s.query (all_in ns ls) ≡ answer_to ns ls (plan_of n sh qs)
 
-pub planned_at : (ls : List ℕ) (sh : Shapes) → AllShaped ls sh → (k c : ℕ) → c ≡ k → named_below ls k ≡ None → (n u : ℕ) (ps qs : List Part) → qs ≡ ps →
+pub planned_at : {ls : List ℕ} {sh : Shapes} → AllShaped ls sh → {k c : ℕ} → c ≡ k → named_below ls k ≡ None → (n u : ℕ) (ps : List Part) {qs : List Part} → qs ≡ ps →
     Parted n (shapes ls) u ps → (sized_of n (shapes ls) ps).cost ≤ 65536 → Planned ls sh c (sized_of n (shapes ls) ps) n qs
-planned_at ls sh shaped k c e named n u ps qs f p l =
+planned_at {ls = ls} {sh = sh} shaped {k = k} e named n u ps f p l =
     rw (e, f) (let m = planned ls sh shaped k named n u ps p l in let s = m.0 in
     record { sound = record { counted = m.1; fits = s.fits }; lines = s.lines; width = s.width; cost = s.cost; answers = s.answers })

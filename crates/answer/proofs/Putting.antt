@@ -1,31 +1,21 @@
 -- Lines written one after the other, and what they are.
-use Rattle.std.proofs.Common.{◌≡◌, ℕ, suc, ◌+◌, ◌*◌, ◌≤◌, List, length, get_or, drop, set, sym, refl, ap, ◌∙◌, subst, inl, inr, suc-mul, add-one, arith, length-drop}
-use Rattle.std.proofs.lemmas.List.{length-set, get_or-set_other, get_or-drop, ext_get_or}
+use Rattle.std.proofs.Common.{◌≡◌, ℕ, suc, ◌+◌, ◌*◌, ◌≤◌, List, length, get_or, drop, sym, refl, ap, ◌∙◌, subst, inl, inr, suc-mul, add-one, arith, length-drop}
+use Rattle.std.proofs.lemmas.List.{get_or-drop, ext_get_or}
 use Rattle.std.proofs.lemmas.Bool.{cases_lt}
 use Rattle.condition.specs.Cond.{Cell}
 use Rattle.condition.specs.Store.{cell_in, cond_at, count, Grown}
 use Rattle.list.specs.Layout.{line_size, lines_in}
-use Rattle.answer.specs.Plan.{Plan, many, wide, place, cell_from, cell, Fits}
+use Rattle.answer.specs.declared.side.Side.{Side}
+use Rattle.answer.specs.Plan.{many, wide, cell_from}
+use Rattle.answer.specs.Sides.{plan, node, cells}
 use Rattle.answer.specs.Laid.{Laid}
 use Rattle.answer.specs.Written.{Put, Written}
 use Rattle.answer.proofs.Tabs.{tab_same}
 use Rattle.answer.proofs.Lines.{line_of, line_same, answer_to, lines_in_tab, answer_is}
 use Rattle.answer.proofs.Steps.{row}
-use Rattle.answer.proofs.Whole.{says_grown}
+use Rattle.answer.proofs.Views.{says_grown}
 
--- a line whose node was written first
-pub put_set : (node v : ℕ) (cells : ℕ → Cell) (w at : ℕ) (xs ys : List ℕ) → Put node cells w at (set xs at v) ys → Put node cells w at xs ys
-put_set node v cells w at xs ys p = record {
-  long = p.long ∙ length-set xs at v;
-  head = p.head;
-  body = p.body;
-  before = λ k l. p.before k l ∙ get_or-set_other xs at k v 0 (omega arith);
-  past = λ k l. p.past k l ∙ get_or-set_other xs at k v 0 (omega arith);
-}
-
-pub written_none : (node : ℕ → ℕ) (cells : ℕ → ℕ → Cell) (w : ℕ) (xs : List ℕ) → Written node cells w 0 xs xs
-written_none node cells w xs = record { long = refl; head = λ i l. absurd (omega arith); body = λ i l. absurd (omega arith); past = λ k l. refl }
-
+-- one line more
 pub written_more : (node : ℕ → ℕ) (cells : ℕ → ℕ → Cell) (w n : ℕ) (xs ys zs : List ℕ) → Written node cells w n xs ys → Put (node n) (cells n) w (n * line_size w) ys zs → Written node cells w (n + 1) xs zs
 written_more node cells w n xs ys zs a p = record {
   long = p.long ∙ a.long;
@@ -42,19 +32,20 @@ written_more node cells w n xs ys zs a p = record {
 }
 
 -- what is written is the answer
-pub written_says : (ls : List ℕ) (c : ℕ) (p : Plan) (b : ℕ) (ns ns₁ ns₂ xs ys : List ℕ) → Fits ls c p → c ≤ count ns → Grown ns ns₁ → b ≡ count ns₁ → Laid ls p ns₁ ns₂
-    → Written (place ls p b) (cell ls p) (wide p) (many p) xs ys → lines_in ns₂ (many p) (wide p) ys ≡ answer_to ns ls p
-written_says ls c p b ns ns₁ ns₂ xs ys f e g eb a w =
+pub written_says : (s : Side) (ns ns₁ ns₂ xs ys : List ℕ) → s.asked.first ≤ count ns → Grown ns ns₁ → Laid s ns₁ ns₂
+    → Written (node s) (cells s) (wide (plan s)) (many (plan s)) xs ys → lines_in ns₂ (many (plan s)) (wide (plan s)) ys ≡ answer_to ns s.asked.lists.now (plan s)
+written_says s ns ns₁ ns₂ xs ys e g a w =
+    let ls = s.asked.lists.now in let p = plan s in
     lines_in_tab ns₂ (many p) (wide p) 0 ys
     ∙ (tab_same (many p) _ (line_of ns ls p) (λ i l.
     let k = 0 + i * line_size (wide p) in let z : i * line_size (wide p) ≡ k = omega arith in
     line_same _ _ _ _
-    (tab_same (wide p) (cell_from ys k) (cell ls p i) (λ d m.
+    (tab_same (wide p) (cell_from ys k) (cells s i) (λ d m.
     let x : i * line_size (wide p) + 1 + 2 * d ≡ k + (1 + 2 * d) = omega arith in
     let y : i * line_size (wide p) + 1 + 2 * d + 1 ≡ k + (2 + 2 * d) = omega arith in
     rw (y, x) at (w.body i l d m)))
-    (ap (cond_at ns₂) ((rw z at (w.head i l)) ∙ ap (λ t. place ls p t i) eb) ∙ (a.is i l ∙ says_grown ns ns₁ ls c p i f l g e)))
-    ∙ sym (answer_is ns ls c p f))
+    (ap (cond_at ns₂) (rw z at (w.head i l)) ∙ (a.is i l ∙ says_grown ns ns₁ ls s.asked.first p i s.sound.fits l g e)))
+    ∙ sym (answer_is ns ls s.asked.first p s.sound.fits))
 
 -- past the lines the slice holds what it held
 pub drop_past : (k : ℕ) (xs ys : List ℕ) → length ys ≡ length xs → ((j : ℕ) → k ≤ j → get_or ys j 0 ≡ get_or xs j 0) → drop k ys ≡ drop k xs

@@ -34,6 +34,3 @@ stays ls sh ns ns₁ shaped named g =
           let s = shaped.each t m in
           s.says ns₁ ∙ (lines_stay ns ns₁ ls (shape_of sh t).at (shape_of sh t).lines (shape_of sh t).width g (listed ls sh shaped (count ns) named t m) ∙ sym (s.says ns)));
     }
-
-pub stays_same : (ls ns ns₁ : List ℕ) → ns₁ ≡ ns → Stays ls ns ns₁
-stays_same ls ns ns₁ e = rw e (record { conditions = λ j l. refl; known = refl; all = refl })

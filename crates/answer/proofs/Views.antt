@@ -1,22 +1,18 @@
--- A part seen through its plan.
-use Rattle.std.proofs.Common.{◌≡◌, ℕ, zero, suc, ◌+◌, ◌-◌, ◌*◌, ◌/◌, ◌%◌, ◌<◌, ◌≤◌, min, true, List, length, get_or, take, drop, sym, refl, ap, ◌∙◌, subst, inl, inr, add-zero, suc-mul, zero-mul, arith, length-drop, length-take}
-use Rattle.std.proofs.lemmas.List.{get_or-take, get_or-drop}
+-- The numbers, the nodes and the cells of a question by those of the questions below it.
+use Rattle.std.proofs.Common.{◌≡◌, ℕ, ◌+◌, ◌-◌, ◌*◌, ◌/◌, ◌%◌, ◌<◌, ◌≤◌, true, List, length, get_or, drop, refl, ap, subst, inl, inr, add-zero, zero-mul, arith}
+use Rattle.std.proofs.lemmas.List.{get_or-drop}
 use Rattle.std.proofs.lemmas.Bool.{cases_lt, lt-ltb, le-ltb}
-use Rattle.condition.specs.Store.{cell_in, has_name}
-use Rattle.list.specs.Shapes.{shape_of}
-use Rattle.list.specs.declared.shape.Shapes.{Shapes}
-use Rattle.query.specs.Shapes.{test_of, part_at}
-use Rattle.query.specs.declared.Test.{Test}
-use Rattle.query.specs.declared.Sign.{Sign}
-use Rattle.query.specs.declared.Sign.TheVariants.{Rows, Keep, Columns, Join, Union, Without}
-use Rattle.query.specs.declared.Part.{Part}
-use Rattle.answer.specs.Plan.{Plan, list, keep, columns, join, union, without, many, wide, size, less_size, cell_from, cell, Inside, Listed, Fits}
-use Rattle.answer.specs.Planned.{plan_by, plan_of, Numbers, BelowBy, Counted, Sound}
-use Rattle.answer.proofs.Steps.{row}
-use Rattle.answer.proofs.Whole.{pair_in}
+use Rattle.condition.specs.Store.{count, cell_in, has_name, Grown}
+use Rattle.condition.proofs.Growing.{grown_cond}
+use Rattle.list.specs.Layout.{line_size}
+use Rattle.query.specs.Ask.{Test}
+use Rattle.answer.specs.declared.side.Side.{Side}
+use Rattle.answer.specs.Plan.{Plan, list, keep, columns, join, union, without, many, wide, size, less_size, place, cell_from, cell, says, Inside, Listed, Fits}
+use Rattle.answer.specs.Sides.{plan, node, cells, Under, One, Two}
+use Rattle.answer.proofs.Steps.{row, rid_same, pair_in}
 
 -- the cells of a question are cells
-pub cell_named : (ls : List ℕ) (c : ℕ) (p : Plan) (i a : ℕ) → Fits ls c p → i < many p → a < wide p → has_name (cell ls p i a) ≡ true
+cell_named : (ls : List ℕ) (c : ℕ) (p : Plan) (i a : ℕ) → Fits ls c p → i < many p → a < wide p → has_name (cell ls p i a) ≡ true
 unfolding many wide cell Fits
 cell_named ls c (list at n w) i a f l m = f.named i a l m
 cell_named ls c (keep t p) i a f l m = cell_named ls c p i a f.1 l m
@@ -33,161 +29,97 @@ cell_named ls c (union p q) i a f l m = elim (cases_lt i (many p)) [
 ]
 cell_named ls c (without p q) i a f l m = cell_named ls c p i a f.1 l m
 
-none : (n : ℕ) (sh : Shapes) (ps : List Part) → n ≡ 0 → Counted n sh ps → ⊥
-unfolding Counted
-none zero sh ps e c = c
-none (suc n) sh ps e c = omega arith
+pub named : (s : Side) (i a : ℕ) → i < many (plan s) → a < wide (plan s) → has_name (cells s i a) ≡ true
+named s i a l m = cell_named s.asked.lists.now s.asked.first (plan s) i a s.sound.fits l m
 
-unrolled : (n : ℕ) (sh : Shapes) (ps : List Part) → (n ≡ 0 → ⊥) →
-    plan_of n sh ps ≡ plan_by (part_at ps 0).sign (part_at ps 0).width sh (λ i. plan_of (n - 1) sh (drop i ps))
-unfolding plan_of
-unrolled zero sh ps h = absurd (h refl)
-unrolled (suc n) sh ps h = let e : suc n - 1 ≡ n = omega arith in rw e refl
+-- what a question says does not change as the store grows
+pub says_grown : (ns ns₁ ls : List ℕ) (c : ℕ) (p : Plan) (i : ℕ) → Fits ls c p → i < many p → Grown ns ns₁ → c ≤ count ns → says ns₁ ls p i ≡ says ns ls p i
+unfolding says many Fits
+says_grown ns ns₁ ls c (list at n w) i f m g l = grown_cond ns ns₁ g (get_or ls (at + i * line_size w) 0) (omega (arith, f.stand i m))
+says_grown ns ns₁ ls c (keep t p) i f m g l = rw (says_grown ns ns₁ ls c p i f.1 m g l) refl
+says_grown ns ns₁ ls c (columns cs p) i f m g l = says_grown ns ns₁ ls c p i f.1 m g l
+says_grown ns ns₁ ls c (join p q) i f m g l =
+    let h = pair_in i (many p) (many q) m in
+    rw (says_grown ns ns₁ ls c p (i / many q) f.0 h.0 g l, says_grown ns ns₁ ls c q (i % many q) f.1 h.1 g l) refl
+says_grown ns ns₁ ls c (union p q) i f m g l = elim (cases_lt i (many p)) [
+  | inl k ↦ rw (lt-ltb _ _ k) (says_grown ns ns₁ ls c p i f.1 k g l)
+  | inr k ↦ rw (le-ltb _ _ k) (says_grown ns ns₁ ls c q (i - many p) f.2 (omega arith) g l)
+]
+says_grown ns ns₁ ls c (without p q) i f m g l =
+    rid_same (many q) (wide p) (cell ls p i) (says ns₁ ls q) (says ns ls q) (cell ls q) _ _ (λ j k. says_grown ns ns₁ ls c q j f.2 k g l) (says_grown ns ns₁ ls c p i f.1 m g l)
 
-counted : (n : ℕ) (sh : Shapes) (ps : List Part) → Counted n sh ps →
-    (0 < length ps) × Numbers (part_at ps 0) (plan_of n sh ps) × BelowBy (part_at ps 0).sign sh (λ i. Counted (n - 1) sh (drop i ps))
-unfolding Counted
-counted zero sh ps c = absurd c
-counted (suc n) sh ps c = let e : suc n - 1 ≡ n = omega arith in rw e c
+-- a question's lines, columns and nodes
+pub record Sums (s : Side) (n w k : ℕ) : Type 0 where
+  pub lines : many (plan s) ≡ n
+  pub width : wide (plan s) ≡ w
+  pub size : size (plan s) ≡ k
 
-module _ {n : ℕ} {sh : Shapes} {ps : List Part} {ls : List ℕ} {c : ℕ} (s : Sound n sh ps ls c) where
-  pub no_left : n ≡ 0 → ⊥
-  no_left e = none n sh ps e s.counted
+pub rows_sums : (s : Side) {at n w : ℕ} → plan s ≡ list at n w → Sums s n w 0
+unfolding many wide size
+rows_sums s e = record { lines = ap many e; width = ap wide e; size = ap size e }
 
-  pub some_parts : 0 < length ps
-  some_parts = (counted n sh ps s.counted).0
+module _ {s : Side} where
+  pub keep_sums : {t : Test} {p : Side} → One s (keep t (plan p)) p → Sums s (many (plan p)) (wide (plan p)) (size (plan p) + 3 * many (plan p))
+  unfolding many wide size
+  keep_sums o = record { lines = ap many o.is; width = ap wide o.is; size = ap size o.is }
 
-  pub numbers : {r : Part} → r ≡ part_at ps 0 → Numbers r (plan_of n sh ps)
-  numbers e = rw e (counted n sh ps s.counted).1
+  pub columns_sums : {cs : List ℕ} {p : Side} → One s (columns cs (plan p)) p → Sums s (many (plan p)) (length cs) (size (plan p))
+  unfolding many wide size
+  columns_sums o = record { lines = ap many o.is; width = ap wide o.is; size = ap size o.is }
 
--- the parts of a question below lie in the parts
-pub behind : (m : ℕ) (sh : Shapes) (ps : List Part) (ls : List ℕ) (c i : ℕ) → Sound m sh (drop i ps) ls c → i < length ps
-behind m sh ps ls c i d = let z : 0 < length ps - i = rw length-drop at (some_parts d) in omega arith
+  pub join_sums : {p q : Side} → Two s (join (plan p) (plan q)) p q →
+      Sums s (many (plan p) * many (plan q)) (wide (plan p) + wide (plan q)) (size (plan p) + size (plan q) + many (plan p) * many (plan q))
+  unfolding many wide size
+  join_sums o = record { lines = ap many o.is; width = ap wide o.is; size = ap size o.is }
 
--- a question with one below it
-pub record Single (whole up p : Plan) (w own m : ℕ) (sh : Shapes) (qs : List Part) (ls : List ℕ) (c : ℕ) : Type 0 where
-  pub is : whole ≡ up
-  pub sound : Sound m sh qs ls c
-  pub lines : many whole ≡ many p
-  pub width : wide whole ≡ w
-  pub cost : size whole ≡ size p + own
+  pub union_sums : {p q : Side} → Two s (union (plan p) (plan q)) p q → Sums s (many (plan p) + many (plan q)) (wide (plan p)) (size (plan p) + size (plan q))
+  unfolding many wide size
+  union_sums o = record { lines = ap many o.is; width = ap wide o.is; size = ap size o.is }
 
--- a question with two below it
-pub record Double (whole up p q : Plan) (n w own : ℕ) (sh : Shapes) (m : ℕ) (fs : List Part) (l : ℕ) (qs : List Part) (ls : List ℕ) (c : ℕ) : Type 0 where
-  pub is : whole ≡ up
-  pub first : Sound m sh fs ls c
-  pub second : Sound l sh qs ls c
-  pub lines : many whole ≡ n
-  pub width : wide whole ≡ w
-  pub cost : size whole ≡ size p + size q + own
+  pub without_sums : {p q : Side} → Two s (without (plan p) (plan q)) p q →
+      Sums s (many (plan p)) (wide (plan p)) (size (plan p) + size (plan q) + many (plan p) * less_size (wide (plan p)) (many (plan q)))
+  unfolding many wide size
+  without_sums o = record { lines = ap many o.is; width = ap wide o.is; size = ap size o.is }
 
-module _ {n : ℕ} {sh : Shapes} {ps : List Part} {ls : List ℕ} {c : ℕ} (s : Sound n sh ps ls c) (h : n ≡ 0 → ⊥) {r : Part} (is : r ≡ part_at ps 0) where
-  abbrev whole : Plan
-  whole = plan_of n sh ps
+-- what fits of a question fits of those below it
+pub rows_listed : (s : Side) {at n w : ℕ} → plan s ≡ list at n w → Listed s.asked.lists.now s.asked.first at n w
+unfolding Fits
+rows_listed s e = subst (Fits s.asked.lists.now s.asked.first) e s.sound.fits
 
-  abbrev sub : ℕ → Plan
-  sub i = plan_of (n - 1) sh (drop i ps)
-
-  plan_is : (g : Sign) → r.sign ≡ g → whole ≡ plan_by g r.width sh sub
-  plan_is g e = unrolled n sh ps h ∙ (ap (λ z. plan_by z.sign z.width sh sub) (sym is) ∙ ap (λ z. plan_by z r.width sh sub) e)
-
-  under : (g : Sign) → r.sign ≡ g → BelowBy g sh (λ i. Counted (n - 1) sh (drop i ps))
-  under g e = subst (λ z. BelowBy z sh (λ i. Counted (n - 1) sh (drop i ps))) (ap (λ z. z.sign) (sym is) ∙ e) (counted n sh ps s.counted).2
-
-  fits_as : (p : Plan) → whole ≡ p → Fits ls c p
-  fits_as p e = subst (Fits ls c) e s.fits
-
-  pub rows_view : {t : ℕ} → r.sign ≡ Rows t →
-      (whole ≡ list (shape_of sh t).at (shape_of sh t).lines (shape_of sh t).width)
-      × Listed ls c (shape_of sh t).at (shape_of sh t).lines (shape_of sh t).width × (t < sh.count) × (sh.count ≤ 8)
+module _ {s : Side} where
+  pub columns_inside : {cs : List ℕ} {p : Side} → One s (columns cs (plan p)) p → (a : ℕ) → a < length cs → get_or cs a 0 < wide (plan p)
   unfolding Fits
-  rows_view {t = t} e = let p = plan_is (Rows t) e in let u = under (Rows t) e in (p, fits_as _ p, u.0, u.1)
+  columns_inside o = (subst (Fits s.asked.lists.now s.asked.first) o.is s.sound.fits).0
 
-  keep_sub : {t : Test} → r.sign ≡ Keep t →
-      Single whole (keep (test_of t) (sub 1)) (sub 1) (wide (sub 1)) (3 * many (sub 1)) (n - 1) sh (drop 1 ps) ls c × Inside (test_of t) (wide (sub 1))
-  unfolding Fits many wide size
-  keep_sub {t = t} e =
-      let p = plan_is (Keep t) e in let f = fits_as _ p in
-      (record { is = p; sound = record { counted = under (Keep t) e; fits = f.1 }; lines = ap many p; width = ap wide p; cost = ap size p }, f.0)
+  pub keep_inside : {t : Test} {p : Side} → One s (keep t (plan p)) p → Inside t (wide (plan p))
+  unfolding Fits
+  keep_inside o = (subst (Fits s.asked.lists.now s.asked.first) o.is s.sound.fits).0
 
-  columns_sub : {cs : List ℕ} → r.sign ≡ Columns cs →
-      Single whole (columns (take r.width cs) (sub 1)) (sub 1) (length (take r.width cs)) 0 (n - 1) sh (drop 1 ps) ls c
-      × (length cs ≡ 4) × ((a : ℕ) → a < length (take r.width cs) → get_or (take r.width cs) a 0 < wide (sub 1))
-  unfolding Fits many wide size
-  columns_sub {cs = cs} e =
-      let p = plan_is (Columns cs) e in let f = fits_as _ p in let u = under (Columns cs) e in
-      let k : size whole ≡ size (sub 1) = ap size p in
-      (record { is = p; sound = record { counted = u.1; fits = f.1 }; lines = ap many p; width = ap wide p; cost = omega (arith, k) }, u.0, f.0)
+  pub union_even : {p q : Side} → Two s (union (plan p) (plan q)) p q → wide (plan p) ≡ wide (plan q)
+  unfolding Fits
+  union_even o = (subst (Fits s.asked.lists.now s.asked.first) o.is s.sound.fits).0
 
-  join_sub : {k : ℕ} → r.sign ≡ Join k →
-      Double whole (join (sub 1) (sub k)) (sub 1) (sub k) (many (sub 1) * many (sub k)) (wide (sub 1) + wide (sub k)) (many (sub 1) * many (sub k)) sh (n - 1) (drop 1 ps) (n - 1) (drop k ps) ls c
-  unfolding Fits many wide size
-  join_sub {k = k} e =
-      let p = plan_is (Join k) e in let f = fits_as _ p in let u = under (Join k) e in
-      record { is = p; first = record { counted = u.0; fits = f.0 }; second = record { counted = u.1; fits = f.1 }; lines = ap many p; width = ap wide p; cost = ap size p }
+  pub without_even : {p q : Side} → Two s (without (plan p) (plan q)) p q → wide (plan p) ≡ wide (plan q)
+  unfolding Fits
+  without_even o = (subst (Fits s.asked.lists.now s.asked.first) o.is s.sound.fits).0
 
-  union_sub : {k : ℕ} → r.sign ≡ Union k →
-      Double whole (union (sub 1) (sub k)) (sub 1) (sub k) (many (sub 1) + many (sub k)) (wide (sub 1)) 0 sh (n - 1) (drop 1 ps) (n - 1) (drop k ps) ls c × (wide (sub 1) ≡ wide (sub k))
-  unfolding Fits many wide size
-  union_sub {k = k} e =
-      let p = plan_is (Union k) e in let f = fits_as _ p in let u = under (Union k) e in
-      let z : size whole ≡ size (sub 1) + size (sub k) = ap size p in
-      (record { is = p; first = record { counted = u.0; fits = f.1 }; second = record { counted = u.1; fits = f.2 }; lines = ap many p; width = ap wide p; cost = omega (arith, z) }, f.0)
+-- a pair of lines, by its number
+pub pair_at : {s p q : Side} → Two s (join (plan p) (plan q)) p q → (i m : ℕ) → i < many (plan s) → m ≡ many (plan q) → (0 < m) × (i / m < many (plan p)) × (i % m < many (plan q))
+pair_at {p = p} {q = q} o i m l e = let v = join_sums o in rw e (let h = pair_in i (many (plan p)) (many (plan q)) (omega (arith, v.lines)) in (omega arith, h.0, h.1))
 
-  without_sub : {k : ℕ} → r.sign ≡ Without k →
-      Double whole (without (sub 1) (sub k)) (sub 1) (sub k) (many (sub 1)) (wide (sub 1)) (many (sub 1) * less_size (wide (sub 1)) (many (sub k))) sh (n - 1) (drop 1 ps) (n - 1) (drop k ps) ls c × (wide (sub 1) ≡ wide (sub k))
-  unfolding Fits many wide size
-  without_sub {k = k} e =
-      let p = plan_is (Without k) e in let f = fits_as _ p in let u = under (Without k) e in
-      (record { is = p; first = record { counted = u.0; fits = f.1 }; second = record { counted = u.1; fits = f.2 }; lines = ap many p; width = ap wide p; cost = ap size p }, f.0)
+-- there is a line, so the nodes of a line are among the question's
+pub less_low : {s p q : Side} → Two s (without (plan p) (plan q)) p q → (i : ℕ) → i < many (plan s) → less_size (wide (plan p)) (many (plan q)) ≤ 1000000
+less_low {s = s} {p = p} {q = q} o i l =
+    let v = without_sums o in let x = less_size (wide (plan p)) (many (plan q)) in
+    omega (arith, v.lines, v.size, s.low, zero-mul x, row 0 (many (plan p)) x (omega (arith, v.lines)))
 
-  -- the same, where the questions below are known as they were taken from the parts
-  module _ {m : ℕ} (em : m ≡ n - 1) {fs : List Part} (ef : fs ≡ drop 1 ps) where
-    pub keep_view : {t : Test} → r.sign ≡ Keep t →
-        Single whole (keep (test_of t) (plan_of m sh fs)) (plan_of m sh fs) (wide (plan_of m sh fs)) (3 * many (plan_of m sh fs)) m sh fs ls c × Inside (test_of t) (wide (plan_of m sh fs))
-    keep_view e = rw (em, ef) (keep_sub e)
+-- the nodes and the cells of a question below, by the lists of the one above
+module _ {s p : Side} {b : ℕ} (u : Under s p b) where
+  pub node_under : (i : ℕ) → node p i ≡ place s.asked.lists.now (plan p) b i
+  node_under i = rw (u.asked, u.base) refl
 
-    pub columns_view : {cs : List ℕ} → r.sign ≡ Columns cs →
-        Single whole (columns (take r.width cs) (plan_of m sh fs)) (plan_of m sh fs) (length (take r.width cs)) 0 m sh fs ls c
-        × (length cs ≡ 4) × ((a : ℕ) → a < length (take r.width cs) → get_or (take r.width cs) a 0 < wide (plan_of m sh fs))
-    columns_view e = rw (em, ef) (columns_sub e)
-
-    module _ {l : ℕ} (el : l ≡ n - 1) {k : ℕ} {qs : List Part} (eq : qs ≡ drop k ps) where
-      pub join_view : r.sign ≡ Join k →
-          Double whole (join (plan_of m sh fs) (plan_of l sh qs)) (plan_of m sh fs) (plan_of l sh qs) (many (plan_of m sh fs) * many (plan_of l sh qs)) (wide (plan_of m sh fs) + wide (plan_of l sh qs)) (many (plan_of m sh fs) * many (plan_of l sh qs)) sh m fs l qs ls c
-      join_view e = rw (em, ef, el, eq) (join_sub e)
-
-      pub union_view : r.sign ≡ Union k →
-          Double whole (union (plan_of m sh fs) (plan_of l sh qs)) (plan_of m sh fs) (plan_of l sh qs) (many (plan_of m sh fs) + many (plan_of l sh qs)) (wide (plan_of m sh fs)) 0 sh m fs l qs ls c × (wide (plan_of m sh fs) ≡ wide (plan_of l sh qs))
-      union_view e = rw (em, ef, el, eq) (union_sub e)
-
-      pub without_view : r.sign ≡ Without k →
-          Double whole (without (plan_of m sh fs) (plan_of l sh qs)) (plan_of m sh fs) (plan_of l sh qs) (many (plan_of m sh fs)) (wide (plan_of m sh fs)) (many (plan_of m sh fs) * less_size (wide (plan_of m sh fs)) (many (plan_of l sh qs))) sh m fs l qs ls c × (wide (plan_of m sh fs) ≡ wide (plan_of l sh qs))
-      without_view e = rw (em, ef, el, eq) (without_sub e)
-
-pub some_less : (w m : ℕ) → (m ≡ 0 → ⊥) → 1 ≤ m * (2 * w + 3)
-some_less w zero h = absurd (h refl)
-some_less w (suc m) h = omega (arith, suc-mul m (2 * w + 3))
-
--- the nodes of lines less others, by the parts
-module _ {whole up p q : Plan} {sh : Shapes} {m : ℕ} {fs : List Part} {l : ℕ} {qs : List Part} {ls : List ℕ} {c : ℕ} {r o : Part} (nr : Numbers r whole) (no : Numbers o q)
-    (v : Double whole up p q (many p) (wide p) (many p * less_size (wide p) (many q)) sh m fs l qs ls c) (i : ℕ) (within : i < many whole) where
-  width_is : r.width ≡ wide p
-  width_is = nr.width ∙ v.width
-
-  lines_are : r.lines ≡ many p
-  lines_are = nr.lines ∙ v.lines
-
-  -- they are within the question's
-  pub less_room : (o.lines * (2 * r.width + 3) ≤ r.lines * (o.lines * (2 * r.width + 3))) × (r.lines * (o.lines * (2 * r.width + 3)) ≤ r.cost) × (r.cost ≤ 65536)
-  less_room =
-      rw (width_is, lines_are, no.lines)
-      (omega (arith, row 0 (many p) (less_size (wide p) (many q)) (omega (arith, v.lines)), zero-mul (less_size (wide p) (many q))), omega (arith, nr.cost, v.cost), omega (arith, nr.cost, nr.cheap))
-
-  pub less_place : (b : ℕ) →
-      b + r.cost - r.lines * (o.lines * (2 * r.width + 3)) + i * (o.lines * (2 * r.width + 3)) + o.lines * (2 * r.width + 3) - 1
-      ≡ b + size p + size q + i * less_size (wide p) (many q) + less_size (wide p) (many q) - 1
-  less_place b = rw (width_is, lines_are, no.lines) (omega (arith, nr.cost, v.cost))
+  pub cells_under : (i a : ℕ) → cells p i a ≡ cell s.asked.lists.now (plan p) i a
+  cells_under i a = rw u.asked refl
 
 -- a line of a list, by its place
 pub node_at : (line ls : List ℕ) (k : ℕ) → line ≡ drop k ls → get_or line 0 0 ≡ get_or ls k 0
@@ -195,11 +127,3 @@ node_at line ls k e = rw (e, get_or-drop k ls 0 0, add-zero k) refl
 
 pub cell_at_line : (line ls : List ℕ) (k a : ℕ) → line ≡ drop k ls → cell_in (get_or line (1 + 2 * a) 0) (get_or line (2 + 2 * a) 0) ≡ cell_from ls k a
 cell_at_line line ls k a e = rw (e, get_or-drop k ls (1 + 2 * a) 0, get_or-drop k ls (2 + 2 * a) 0) refl
-
--- a column of those that are kept
-pub column_in : (w : ℕ) (cs : List ℕ) (a : ℕ) → a < length (take w cs) → (a < length cs) × (get_or cs a 0 ≡ get_or (take w cs) a 0)
-column_in w cs a l = let q : a < min w (length cs) = rw length-take at l in (omega arith, sym (get_or-take w cs a 0 (omega arith)))
-
--- a pair of lines, by its number
-pub pair_at : (i : ℕ) (p q : Plan) (m : ℕ) → i < many p * many q → m ≡ many q → (0 < m) × (i / m < many p) × (i % m < many q)
-pair_at i p q m l e = rw e (let h = pair_in i (many p) (many q) l in (omega arith, h.0, h.1))

@@ -1,118 +1,136 @@
 -- A question's nodes, from those of the questions below it.
-use Rattle.std.proofs.Common.{◌≡◌, ℕ, zero, suc, ◌+◌, ◌-◌, ◌*◌, ◌/◌, ◌%◌, ◌<◌, ◌≤◌, List, length, get_or, refl, ◌∙◌, subst, inl, inr, mod-lt, div-lt_iff_lt-mul, mul-zero, zero-mul, arith}
+use Rattle.std.proofs.Common.{◌≡◌, ℕ, ◌+◌, ◌-◌, ◌*◌, ◌/◌, ◌%◌, ◌<◌, ◌≤◌, List, length, refl, ap, ◌∙◌, subst, inl, inr, mul-zero, zero-mul, arith}
 use Rattle.std.proofs.lemmas.Bool.{cases_lt, lt-ltb, le-ltb, ne_eqb}
 use Rattle.condition.specs.Cond.{both}
-use Rattle.condition.specs.Store.{count, cond_at, Grown}
+use Rattle.condition.specs.Store.{count, cond_at}
 use Rattle.condition.proofs.Growing.{grown_self, grown_cond, grown_trans}
-use Rattle.list.specs.Layout.{line_size}
 use Rattle.query.specs.Ask.{Test}
+use Rattle.answer.specs.declared.side.Side.{Side}
+use Rattle.answer.specs.declared.less.Less.{Less}
+use Rattle.answer.specs.declared.side.Asked.{Asked}
 use Rattle.answer.specs.Plan.{Plan, list, keep, columns, join, union, without, many, wide, size, place, cell, says, tests, less_size, rid, Fits}
-use Rattle.answer.specs.Laid.{Ready, Laid, Kept, Joined, Less, now_at}
-use Rattle.answer.proofs.Steps.{rid_same}
+use Rattle.answer.specs.Sides.{plan, cells, Under, One, Two}
+use Rattle.answer.specs.Laid.{Based, Added, Laid, now_at, last_of, kept, joined, less, each}
+use Rattle.answer.proofs.Steps.{rid_same, pair_in}
+use Rattle.answer.proofs.Views.{says_grown, rows_sums, keep_sums, columns_sums, join_sums, union_sums, without_sums, rows_listed, node_under}
 
-some_lines : (i n m : ℕ) → i < n * m → 0 < m
-some_lines i n zero l = absurd (omega (arith, mul-zero n))
-some_lines i n (suc m) l = omega arith
+-- the nodes of a question below, by the lists of the one above
+module _ {s p : Side} {b : ℕ} (u : Under s p b) where
+  fits_under : Fits s.asked.lists.now s.asked.first (plan p)
+  fits_under = subst (λ (a : Asked). Fits a.lists.now a.first (plan p)) u.asked p.sound.fits
 
-pub pair_in : (i n m : ℕ) → i < n * m → (i / m < n) × (i % m < m)
-pair_in i n m l = let z = some_lines i n m l in ((div-lt_iff_lt-mul {k = m} {x = i} {y = n} z).1 l, mod-lt i {m = m} z)
+  pub based_under : {ns : List ℕ} → Based s.asked.first ns → Based p.asked.first ns
+  based_under h = rw u.asked h
 
--- what a question says does not change as the store grows
-pub says_grown : (ns ns₁ ls : List ℕ) (c : ℕ) (p : Plan) (i : ℕ) → Fits ls c p → i < many p → Grown ns ns₁ → c ≤ count ns → says ns₁ ls p i ≡ says ns ls p i
-unfolding says many Fits
-says_grown ns ns₁ ls c (list at n w) i f m g l = grown_cond ns ns₁ g (get_or ls (at + i * line_size w) 0) (omega (arith, f.stand i m))
-says_grown ns ns₁ ls c (keep t p) i f m g l = rw (says_grown ns ns₁ ls c p i f.1 m g l) refl
-says_grown ns ns₁ ls c (columns cs p) i f m g l = says_grown ns ns₁ ls c p i f.1 m g l
-says_grown ns ns₁ ls c (join p q) i f m g l =
-    let h = pair_in i (many p) (many q) m in
-    rw (says_grown ns ns₁ ls c p (i / many q) f.0 h.0 g l, says_grown ns ns₁ ls c q (i % many q) f.1 h.1 g l) refl
-says_grown ns ns₁ ls c (union p q) i f m g l = elim (cases_lt i (many p)) [
-  | inl k ↦ rw (lt-ltb _ _ k) (says_grown ns ns₁ ls c p i f.1 k g l)
-  | inr k ↦ rw (le-ltb _ _ k) (says_grown ns ns₁ ls c q (i - many p) f.2 (omega arith) g l)
-]
-says_grown ns ns₁ ls c (without p q) i f m g l =
-    rid_same (many q) (wide p) (cell ls p i) (says ns₁ ls q) (says ns ls q) (cell ls q) _ _ (λ j k. says_grown ns ns₁ ls c q j f.2 k g l) (says_grown ns ns₁ ls c p i f.1 m g l)
+  module _ {ns ns₁ : List ℕ} (a : Laid p ns ns₁) (i : ℕ) (l : i < many (plan p)) where
+    within_under : place s.asked.lists.now (plan p) b i < count ns₁
+    within_under = subst (λ t. t < count ns₁) (node_under u i) (a.within i l)
 
-module _ (ls : List ℕ) (c : ℕ) (ns : List ℕ) where
-  pub laid_rows : (at n w : ℕ) → Fits ls c (list at n w) → c ≤ count ns → 1 + 5 * count ns ≤ length ns → Laid ls (list at n w) ns ns
-  unfolding size place says many Fits
-  laid_rows at n w f b l = record { grown = grown_self ns l; more = omega arith; within = λ i m. omega (arith, f.stand i m); is = λ i m. refl }
+    now_under : now_at ns₁ p i ≡ says ns s.asked.lists.now (plan p) i
+    now_under = a.is i l ∙ ap (λ (z : Asked). says ns z.lists.now (plan p) i) u.asked
 
-  pub laid_columns : (cs : List ℕ) (p : Plan) (ns₁ : List ℕ) → Laid ls p ns ns₁ → Laid ls (columns cs p) ns ns₁
-  unfolding size place says many
-  laid_columns cs p ns₁ a = record { grown = a.grown; more = a.more; within = a.within; is = a.is }
+    is_under : cond_at ns₁ (place s.asked.lists.now (plan p) b i) ≡ says ns s.asked.lists.now (plan p) i
+    is_under = subst (λ t. cond_at ns₁ t ≡ says ns s.asked.lists.now (plan p) i) (node_under u i) now_under
 
-  pub laid_keep : (t : Test) (p : Plan) (b : ℕ) (ns₁ ns₂ : List ℕ) → b ≡ count ns → Laid ls p ns ns₁ → Kept ls p b t (many p) ns₁ ns₂ → Laid ls (keep t p) ns ns₂
-  unfolding size place says many
-  laid_keep t p b ns₁ ns₂ e a kept =
-      let k : Kept ls p (count ns) t (many p) ns₁ ns₂ = subst (λ z. Kept ls p z t (many p) ns₁ ns₂) e kept in
-      record {
-        grown = grown_trans ns ns₁ ns₂ a.grown k.grown;
-        more = omega (arith, a.more, k.more);
-        within = λ i m. subst (λ z. z + i * 3 + 3 - 1 < count ns₂) a.more (k.within i m);
-        is = λ i m. subst (λ z. cond_at ns₂ (z + i * 3 + 3 - 1) ≡ both (says ns ls p i) (tests t (cell ls p i))) a.more (k.is i m ∙ rw (a.is i m) refl);
-      }
+pub laid_rows : (s : Side) {at n w : ℕ} {ns : List ℕ} → plan s ≡ list at n w → Based s.asked.first ns → 1 + 5 * count ns ≤ length ns → Laid s ns ns
+unfolding place says
+laid_rows s {ns = ns} e b l =
+    let v = rows_sums s e in let f = rows_listed s e in
+    record { grown = grown_self ns l; more = omega (arith, v.size); within = λ i m. rw e (omega (arith, f.stand i (omega (arith, v.lines)), b.low)); is = λ i m. rw e refl }
 
-  module _ (p q : Plan) (ns₁ ns₂ : List ℕ) (low : c ≤ count ns) (f : Fits ls c q) (a : Laid ls p ns ns₁) (b : Laid ls q ns₁ ns₂) where
-    -- the lines of the first and of the second, as they stand behind both
-    first_is : (i : ℕ) → i < many p → now_at ns₂ ls p (count ns) i ≡ says ns ls p i
-    first_is i m = grown_cond ns₁ ns₂ b.grown (place ls p (count ns) i) (a.within i m) ∙ a.is i m
+pub laid_columns : {s p : Side} {cs : List ℕ} {ns ns₁ : List ℕ} → One s (columns cs (plan p)) p → Laid p ns ns₁ → Laid s ns ns₁
+unfolding place says
+laid_columns o a = let v = columns_sums o in record {
+  grown = a.grown;
+  more = omega (arith, a.more, v.size);
+  within = λ i m. rw o.is (within_under o.first a i (omega (arith, v.lines)));
+  is = λ i m. rw o.is (is_under o.first a i (omega (arith, v.lines)));
+}
 
-    second_is : (i : ℕ) → i < many q → now_at ns₂ ls q (count ns₁) i ≡ says ns ls q i
-    second_is i m = b.is i m ∙ says_grown ns ns₁ ls c q i f m a.grown low
-
-    counts : count ns₂ ≡ count ns + size p + size q
-    counts = omega (arith, a.more, b.more)
-
-    pub laid_union : Laid ls (union p q) ns ns₂
-    unfolding size place says many
-    laid_union = record {
-      grown = grown_trans ns ns₁ ns₂ a.grown b.grown;
-      more = omega (arith, counts);
-      within = λ i m. elim (cases_lt i (many p)) [
-        | inl l ↦ rw (lt-ltb _ _ l) (omega (arith, a.within i l, b.grown.more))
-        | inr l ↦ rw (le-ltb _ _ l) (subst (λ z. place ls q z (i - many p) < count ns₂) a.more (b.within (i - many p) (omega arith)))
-      ];
-      is = λ i m. elim (cases_lt i (many p)) [
-        | inl l ↦ rw (lt-ltb _ _ l) (first_is i l)
-        | inr l ↦ rw (le-ltb _ _ l) (subst (λ z. cond_at ns₂ (place ls q z (i - many p)) ≡ says ns ls q (i - many p)) a.more (second_is (i - many p) (omega arith)))
-      ];
+pub laid_keep : {s p : Side} {t : Test} {ns ns₁ ns₂ : List ℕ} → One s (keep t (plan p)) p → s.base ≡ count ns → Laid p ns ns₁ → Added (kept ns₁ p t) 3 (many (plan p)) ns₁ ns₂ → Laid s ns ns₂
+unfolding place says
+laid_keep {s = s} {p = p} {t = t} {ns = ns} {ns₁ = ns₁} {ns₂ = ns₂} o base a k =
+    let v = keep_sums o in let z : count ns₁ ≡ s.base + size (plan p) = omega (arith, a.more) in
+    record {
+      grown = grown_trans ns ns₁ ns₂ a.grown k.grown;
+      more = omega (arith, a.more, k.more, v.size);
+      within = λ i m. rw o.is (subst (λ b. last_of b 3 i < count ns₂) z (k.within i (omega (arith, v.lines))));
+      is = λ i m. let l : i < many (plan p) = omega (arith, v.lines) in rw o.is
+          (subst (λ b. cond_at ns₂ (last_of b 3 i) ≡ both (says ns s.asked.lists.now (plan p) i) (tests t (cell s.asked.lists.now (plan p) i))) z
+          (k.is i l ∙ (ap (λ c. both c (tests t (cells p i))) (now_under o.first a i l) ∙ ap (λ (b : Asked). both (says ns s.asked.lists.now (plan p) i) (tests t (cell b.lists.now (plan p) i))) o.first.asked)));
     }
 
-    pub laid_join : (x y : ℕ) (ns₃ : List ℕ) → x ≡ count ns → y ≡ count ns₁ → Joined ls p x q y (many p * many q) ns₂ ns₃ → Laid ls (join p q) ns ns₃
-    unfolding size place says many
-    laid_join x y ns₃ ex ey joined =
-        let k : Joined ls p (count ns) q (count ns₁) (many p * many q) ns₂ ns₃ = subst (λ z. Joined ls p z q (count ns₁) (many p * many q) ns₂ ns₃) ex (subst (λ z. Joined ls p x q z (many p * many q) ns₂ ns₃) ey joined) in
-        record {
-          grown = grown_trans ns ns₂ ns₃ (grown_trans ns ns₁ ns₂ a.grown b.grown) k.grown;
-          more = omega (arith, counts, k.more);
-          within = λ i m. subst (λ z. z + i < count ns₃) counts (k.within i m);
-          is = λ i m. let g = pair_in i (many p) (many q) m in
-              subst (λ z. cond_at ns₃ (z + i) ≡ both (says ns ls p (i / many q)) (says ns ls q (i % many q))) counts
-              (k.is i m ∙ rw (first_is (i / many q) g.0, second_is (i % many q) g.1) refl);
-        }
+-- the nodes of two questions below
+module _ {s p q : Side} {up : Plan} (o : Two s up p q) {ns ns₁ ns₂ : List ℕ} (base : s.base ≡ count ns) (low : s.asked.first ≤ count ns) (a : Laid p ns ns₁) (b : Laid q ns₁ ns₂) where
+  first_is : (i : ℕ) → i < many (plan p) → cond_at ns₂ (place s.asked.lists.now (plan p) s.base i) ≡ says ns s.asked.lists.now (plan p) i
+  first_is i l = grown_cond ns₁ ns₂ b.grown _ (within_under o.first a i l) ∙ is_under o.first a i l
 
-    pub laid_none : many q ≡ 0 → Laid ls (without p q) ns ns₂
-    unfolding size place says many rid
-    laid_none z = record {
-      grown = grown_trans ns ns₁ ns₂ a.grown b.grown;
-      more = rw (z, zero-mul (2 * wide p + 3), mul-zero (many p)) (omega (arith, counts));
-      within = λ i m. rw z (omega (arith, a.within i m, b.grown.more));
-      is = λ i m. rw z (first_is i m);
+  second_is : (i : ℕ) → i < many (plan q) → cond_at ns₂ (place s.asked.lists.now (plan q) (s.base + size (plan p)) i) ≡ says ns s.asked.lists.now (plan q) i
+  second_is i l = is_under o.second b i l ∙ says_grown ns ns₁ s.asked.lists.now s.asked.first (plan q) i (fits_under o.second) l a.grown low
+
+  first_now : (i : ℕ) → i < many (plan p) → now_at ns₂ p i ≡ says ns s.asked.lists.now (plan p) i
+  first_now i l = ap (cond_at ns₂) (node_under o.first i) ∙ first_is i l
+
+  second_now : (i : ℕ) → i < many (plan q) → now_at ns₂ q i ≡ says ns s.asked.lists.now (plan q) i
+  second_now i l = ap (cond_at ns₂) (node_under o.second i) ∙ second_is i l
+
+  counts : count ns₂ ≡ s.base + size (plan p) + size (plan q)
+  counts = omega (arith, a.more, b.more)
+
+pub laid_union : {s p q : Side} {ns ns₁ ns₂ : List ℕ} → Two s (union (plan p) (plan q)) p q → s.base ≡ count ns → s.asked.first ≤ count ns → Laid p ns ns₁ → Laid q ns₁ ns₂ → Laid s ns ns₂
+unfolding place says
+laid_union {s = s} {p = p} {q = q} {ns = ns} {ns₁ = ns₁} {ns₂ = ns₂} o base low a b = let v = union_sums o in record {
+  grown = grown_trans ns ns₁ ns₂ a.grown b.grown;
+  more = omega (arith, a.more, b.more, v.size);
+  within = λ i m. elim (cases_lt i (many (plan p))) [
+    | inl l ↦ rw (o.is, lt-ltb _ _ l) (omega (arith, within_under o.first a i l, b.more))
+    | inr l ↦ rw (o.is, le-ltb _ _ l) (within_under o.second b (i - many (plan p)) (omega (arith, v.lines)))
+  ];
+  is = λ i m. elim (cases_lt i (many (plan p))) [
+    | inl l ↦ rw (o.is, lt-ltb _ _ l) (first_is o base low a b i l)
+    | inr l ↦ rw (o.is, le-ltb _ _ l) (second_is o base low a b (i - many (plan p)) (omega (arith, v.lines)))
+  ];
+}
+
+pub laid_join : {s p q : Side} {ns ns₁ ns₂ ns₃ : List ℕ} → Two s (join (plan p) (plan q)) p q → s.base ≡ count ns → s.asked.first ≤ count ns → Laid p ns ns₁ → Laid q ns₁ ns₂ →
+    Added (joined ns₂ p q) 1 (many (plan p) * many (plan q)) ns₂ ns₃ → Laid s ns ns₃
+unfolding place says
+laid_join {s = s} {p = p} {q = q} {ns = ns} {ns₁ = ns₁} {ns₂ = ns₂} {ns₃ = ns₃} o base low a b k =
+    let v = join_sums o in let c = counts o base low a b in
+    record {
+      grown = grown_trans ns ns₂ ns₃ (grown_trans ns ns₁ ns₂ a.grown b.grown) k.grown;
+      more = omega (arith, k.more, v.size);
+      within = λ i m. rw o.is (omega (arith, k.within i (omega (arith, v.lines))));
+      is = λ i m.
+          let l : i < many (plan p) * many (plan q) = omega (arith, v.lines) in let g = pair_in i (many (plan p)) (many (plan q)) l in
+          let z : last_of (count ns₂) 1 i ≡ s.base + size (plan p) + size (plan q) + i = omega arith in
+          rw o.is (subst (λ t. cond_at ns₃ t ≡ both (says ns s.asked.lists.now (plan p) (i / many (plan q))) (says ns s.asked.lists.now (plan q) (i % many (plan q)))) z
+          (k.is i l ∙ rw (first_now o base low a b (i / many (plan q)) g.0, second_now o base low a b (i % many (plan q)) g.1) refl));
     }
 
-    pub laid_less : (x y : ℕ) (ns₃ : List ℕ) → x ≡ count ns → y ≡ count ns₁ → (many q ≡ 0 → ⊥) → Less ls p x q y (many p) ns₂ ns₃ → Laid ls (without p q) ns ns₃
-    unfolding size place says many
-    laid_less x y ns₃ ex ey z lessened =
-        let k : Less ls p (count ns) q (count ns₁) (many p) ns₂ ns₃ = subst (λ z. Less ls p z q (count ns₁) (many p) ns₂ ns₃) ex (subst (λ z. Less ls p x q z (many p) ns₂ ns₃) ey lessened) in
-        record {
-          grown = grown_trans ns ns₂ ns₃ (grown_trans ns ns₁ ns₂ a.grown b.grown) k.grown;
-          more = omega (arith, counts, k.more);
-          within = λ i m. rw (ne_eqb (many q) 0 z) (subst (λ t. t + i * less_size (wide p) (many q) + less_size (wide p) (many q) - 1 < count ns₃) counts (k.within i m));
-          is = λ i m. rw (ne_eqb (many q) 0 z) (subst (λ t. cond_at ns₃ (t + i * less_size (wide p) (many q) + less_size (wide p) (many q) - 1) ≡ rid (many q) (wide p) (cell ls p i) (says ns ls q) (cell ls q) (says ns ls p i)) counts
-              (k.is i m ∙ rid_same (many q) (wide p) (cell ls p i) _ _ (cell ls q) _ _ (λ j l. second_is j l) (first_is i m)));
-        }
+pub laid_none : {s p q : Side} {ns ns₁ ns₂ : List ℕ} → Two s (without (plan p) (plan q)) p q → s.base ≡ count ns → s.asked.first ≤ count ns → Laid p ns ns₁ → Laid q ns₁ ns₂ → many (plan q) ≡ 0 → Laid s ns ns₂
+unfolding place says rid
+laid_none {s = s} {p = p} {q = q} {ns = ns} {ns₁ = ns₁} {ns₂ = ns₂} o base low a b z =
+    let v = without_sums o in let none : many (plan p) * less_size (wide (plan p)) (many (plan q)) ≡ 0 = rw (z, zero-mul (2 * wide (plan p) + 3), mul-zero (many (plan p))) refl in
+    record {
+      grown = grown_trans ns ns₁ ns₂ a.grown b.grown;
+      more = omega (arith, a.more, b.more, v.size);
+      within = λ i m. rw (o.is, z) (omega (arith, within_under o.first a i (omega (arith, v.lines)), b.more));
+      is = λ i m. rw (o.is, z) (first_is o base low a b i (omega (arith, v.lines)));
+    }
 
--- the question below can be built on
-pub laid_ready : (ls : List ℕ) (c : ℕ) (p : Plan) (b : ℕ) (ns ns₁ : List ℕ) (t : ℕ) → Fits ls c p → b ≡ count ns → Laid ls p ns ns₁ → count ns + size p ≤ 1000000 → count ns₁ ≤ t → Ready ls c p b t
-laid_ready ls c p b ns ns₁ t f e a l h = rw e (record { fits = f; low = l; stand = λ i z. omega (arith, a.within i z) })
+pub laid_less : (l : Less) {s : Side} {ns ns₁ ns₂ ns₃ : List ℕ} → Two s (without (plan l.p) (plan l.q)) l.p l.q → s.base ≡ count ns → s.asked.first ≤ count ns → Laid l.p ns ns₁ → Laid l.q ns₁ ns₂ →
+    Added (less ns₂ l (many (plan l.q))) (each l) (many (plan l.p)) ns₂ ns₃ → Laid s ns ns₃
+unfolding place says
+laid_less l {s = s} {ns = ns} {ns₁ = ns₁} {ns₂ = ns₂} {ns₃ = ns₃} o base low a b k =
+    let p = l.p in let q = l.q in let v = without_sums o in let c = counts o base low a b in let some : many (plan l.q) ≡ 0 → ⊥ = λ z. omega (arith, l.some) in
+    record {
+      grown = grown_trans ns ns₂ ns₃ (grown_trans ns ns₁ ns₂ a.grown b.grown) k.grown;
+      more = omega (arith, k.more, v.size);
+      within = λ i m. rw (o.is, ne_eqb (many (plan q)) 0 some) (subst (λ t. last_of t (each l) i < count ns₃) c (k.within i (omega (arith, v.lines))));
+      is = λ i m. let h : i < many (plan p) = omega (arith, v.lines) in rw (o.is, ne_eqb (many (plan q)) 0 some)
+          (subst (λ t. cond_at ns₃ (last_of t (each l) i) ≡ says ns s.asked.lists.now (without (plan p) (plan q)) i) c
+          (k.is i h ∙ (rid_same (many (plan q)) (wide (plan p)) (cells p i) _ _ (cells q) _ _ (λ j m. second_now o base low a b j m) (first_now o base low a b i h)
+          ∙ (ap (λ (z : Asked). rid (many (plan q)) (wide (plan p)) (cell z.lists.now (plan p) i) (says ns s.asked.lists.now (plan q)) (cells q) (says ns s.asked.lists.now (plan p) i)) o.first.asked
+          ∙ ap (λ (z : Asked). rid (many (plan q)) (wide (plan p)) (cell s.asked.lists.now (plan p) i) (says ns s.asked.lists.now (plan q)) (cell z.lists.now (plan q)) (says ns s.asked.lists.now (plan p) i)) o.second.asked))));
+    }

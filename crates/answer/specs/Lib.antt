@@ -4,6 +4,8 @@ pub mod Entry
 pub mod Baptisms
 pub mod Numbers
 pub mod Plan
-pub mod Laid
 pub mod Planned
+pub mod Once
+pub mod Sides
+pub mod Laid
 pub mod Written

@@ -7,7 +7,7 @@
 --   cell ls p i a           the cell in column a of line i
 --   says ns ls p i          the condition of line i, by the nodes ns that the lists name
 --   Fits ls c p             its lists lie in ls and name only the first c nodes; columns are within, and widths agree
-use Rattle.std.specs.Prelude.{◌≡◌, ℕ, zero, suc, ◌+◌, ◌-◌, ◌*◌, ◌/◌, ◌%◌, ◌<◌, ◌≤◌, true, cond as if, List, length, ◌==◌, nat_lt, slice_index}
+use Rattle.std.specs.Prelude.{◌≡◌, ℕ, zero, suc, ◌+◌, ◌-◌, ◌*◌, ◌/◌, ◌%◌, ◌<◌, ◌≤◌, Bool, true, false, cond as if, List, length, ◌==◌, nat_lt, slice_index}
 use Rattle.condition.specs.Cond.{Cell, known, Cond, always, equal, not_so, both}
 use Rattle.condition.specs.Store.{cell_in, cond_at, has_name}
 use Rattle.list.specs.Layout.{line_size}
@@ -78,6 +78,20 @@ tests (same a b) f = equal (f a) (f b)
 tests (differ a b) f = not_so (equal (f a) (f b))
 tests (is a n) f = equal (f a) (known n)
 tests (is_not a n) f = not_so (equal (f a) (known n))
+
+-- the two cells that a test compares
+abbrev pub compared : Test → (ℕ → Cell) → Cell × Cell
+compared (same a b) f = (f a, f b)
+compared (differ a b) f = (f a, f b)
+compared (is a n) f = (f a, known n)
+compared (is_not a n) f = (f a, known n)
+
+-- whether it wants them equal
+abbrev pub alike : Test → Bool
+alike (same a b) = true
+alike (differ a b) = false
+alike (is a n) = true
+alike (is_not a n) = false
 
 -- r cells from a on are equal one by one
 unfoldable pub equals : ℕ → ℕ → (ℕ → Cell) → (ℕ → Cell) → Cond

@@ -8,85 +8,57 @@ ghost use Rattle.answer.specs.Promise.{AnswerRight, AnswerExact, AskedFirst, Sam
 ghost use Rattle.answer.specs.Numbers.{SameNumber};
 ghost use Rattle.answer.specs.Baptisms.{Table, FalseAnswers};
 
-use condition::Refusal;
-
 mod asking;
 mod laying;
+mod less;
 mod places;
 mod side;
+mod split;
 mod writing;
 
 pub use asking::ask;
 
-// What asking replies.
-#[derive(Clone, Copy)]
-pub enum Reply {
-    // How many lines the answer has.
-    Done(u64),
-    Refused(Refusal),
-}
-
 // Theorems about answers: see specs/Promise.antt.
 
-pub fn answer_right() -> u8
+pub fn answer_right()
     ensures { AnswerRight }
-{
-    0
-}
+{}
 
-pub fn answer_exact() -> u8
+pub fn answer_exact()
     ensures { AnswerExact }
-{
-    0
-}
+{}
 
-pub fn asked_first() -> u8
+pub fn asked_first()
     ensures { AskedFirst }
-{
-    0
-}
+{}
 
-pub fn same_answer() -> u8
+pub fn same_answer()
     ensures { SameAnswer }
-{
-    0
-}
+{}
 
-pub fn more_known() -> u8
+pub fn more_known()
     ensures { MoreKnown }
-{
-    0
-}
+{}
 
-pub fn nothing_left() -> u8
+pub fn nothing_left()
     ensures { NothingLeft }
-{
-    0
-}
+{}
 
-pub fn sure_in_one() -> u8
+pub fn sure_in_one()
     ensures { SureInOne }
-{
-    0
-}
+{}
 
 // The number told is that of another and shorter list of the refusals: see specs/Numbers.antt.
-pub fn same_number() -> u8
+pub fn same_number()
     ensures { SameNumber }
-{
-    0
-}
+{}
 
 // The worked example of baptisms and marriages: see specs/Baptisms.antt.
 
-pub fn baptism_table() -> u8
+pub fn baptism_table()
     ensures { Table }
-{
-    0
-}
+{}
 
-pub fn false_answers() -> u8
+pub fn false_answers()
     ensures { FalseAnswers }
-{
-    0
-}
+{}

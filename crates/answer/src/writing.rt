@@ -1,60 +1,47 @@
 // The lines of an answer, written one after the other.
-ghost use Rattle.std.specs.Prelude.{◌≡◌, ℕ, ◌+◌, ◌-◌, ◌*◌, ◌<◌, ◌≤◌, ◌⊎◌, length, slice_index};
+ghost use Rattle.std.specs.Prelude.{◌≡◌, ◌+◌, ◌*◌, ◌<◌, ◌≤◌, length, slice_index};
 ghost use Rattle.condition.specs.Store.{cell_in};
 ghost use Rattle.condition.specs.Shapes.{cell_of};
 ghost use Rattle.list.specs.Layout.{line_size};
-ghost use Rattle.answer.specs.Plan.{many, wide, size};
-ghost use Rattle.answer.specs.Plan as plan;
-ghost use Rattle.answer.specs.Planned.{plan_of, Sound};
+ghost use Rattle.answer.specs.Plan.{many, wide};
+ghost use Rattle.answer.specs.Sides.{plan, node, cells};
 ghost use Rattle.answer.specs.Written.{Put, Written};
 
-use crate::places::{cell, place};
-use crate::side::{Asked, Side};
+use crate::side::Side;
 use condition::Cell;
 
-// Writes the lines of a question whose nodes are laid.
-pub(crate) fn put_lines(asked: Asked, side: Side, out: &mut [u64])
-    requires sound { Sound side.left asked.shapes.now side.parts.now asked.lists.now asked.first }
-    requires low { side.base + size (plan_of side.left asked.shapes.now side.parts.now) ≤ 1000000 }
-    requires room { many (plan_of side.left asked.shapes.now side.parts.now) * line_size (wide (plan_of side.left asked.shapes.now side.parts.now)) ≤ length out.old }
-    ensures { Written (plan.place asked.entry.lists.now (plan_of side.entry.left asked.entry.shapes.now side.entry.parts.now) side.entry.base) (plan.cell asked.entry.lists.now (plan_of side.entry.left asked.entry.shapes.now side.entry.parts.now)) (wide (plan_of side.entry.left asked.entry.shapes.now side.entry.parts.now)) (many (plan_of side.entry.left asked.entry.shapes.now side.entry.parts.now)) out.old out.new }
-{
-    let here = side.part();
-    let lines = here.lines as usize;
-    for i in 0..lines {
-        put_line(asked, side, i as u64, i * (1 + 2 * here.width), out);
+impl Side<'_> {
+    // Writes the lines of a question whose nodes are laid.
+    pub(crate) fn put_lines(&self, out: &mut [u64])
+        requires { many (plan self.now) * line_size (wide (plan self.now)) ≤ length out.old }
+        ensures { Written (node self.now) (cells self.now) (wide (plan self.now)) (many (plan self.now)) out.old out.new }
+    {
+        let size = 1 + 2 * self.width();
+        for i in 0..self.lines() {
+            self.put_line(i, i as usize * size, out);
+        }
+    }
+
+    // Writes line i at a place.
+    fn put_line(&self, i: u64, at: usize, out: &mut [u64])
+        requires line { i < many (plan self.now) }
+        requires room { at + line_size (wide (plan self.now)) ≤ length out.old }
+        ensures { Put (node self.now i) (cells self.now i) (wide (plan self.now)) at out.old out.new }
+    {
+        out[at] = self.place(i);
+        for a in 0..self.width() {
+            let at = at + 1 + 2 * a;
+            out[at..at + 2].copy_from_slice(&numbers(self.cell(i, a)));
+        }
     }
 }
 
-// Writes line i of a question at a place.
-fn put_line(asked: Asked, side: Side, i: u64, at: usize, out: &mut [u64])
-    requires sound { Sound side.left asked.shapes.now side.parts.now asked.lists.now asked.first }
-    requires low { side.base + size (plan_of side.left asked.shapes.now side.parts.now) ≤ 1000000 }
-    requires line { i < many (plan_of side.left asked.shapes.now side.parts.now) }
-    requires room { at + line_size (wide (plan_of side.left asked.shapes.now side.parts.now)) ≤ length out.old }
-    ensures { Put (plan.place asked.entry.lists.now (plan_of side.entry.left asked.entry.shapes.now side.entry.parts.now) side.entry.base i) (plan.cell asked.entry.lists.now (plan_of side.entry.left asked.entry.shapes.now side.entry.parts.now) i) (wide (plan_of side.entry.left asked.entry.shapes.now side.entry.parts.now)) at out.old out.new }
-{
-    let width = side.part().width;
-    out[at] = place(asked, side, i);
-    for a in 0..width {
-        put_cell(out, at + 1 + 2 * a, cell(asked, side, i, a));
-    }
-}
-
-// Writes a cell as two numbers.
-fn put_cell(out: &mut [u64], at: usize, cell: Cell)
-    requires { at + 1 < length out.old }
-    ensures is { cell_in (slice_index out.new at) (slice_index out.new (at + 1)) ≡ cell_of cell }
-    ensures rest { (k : ℕ) → (k < at) ⊎ (at + 1 < k) → slice_index out.new k ≡ slice_index out.old k }
+// A cell as two numbers.
+fn numbers(cell: Cell) -> [u64; 2]
+    ensures { cell_in (slice_index result 0) (slice_index result 1) ≡ cell_of cell }
 {
     match cell {
-        Cell::Number(n) => {
-            out[at] = 0;
-            out[at + 1] = n;
-        }
-        Cell::Gap(name) => {
-            out[at] = 1;
-            out[at + 1] = name;
-        }
+        Cell::Number(n) => [0, n],
+        Cell::Gap(name) => [1, name],
     }
 }

@@ -1,61 +1,49 @@
 use Rattle.std.proofs.Common.{◌≡◌, ◌+◌, ◌*◌, ◌≤◌, refl, ◌∙◌, mul-le-mul, arith, rules}
-use Rattle.list.specs.Layout.{shapes}
-use Rattle.query.specs.Reading.{asked}
 use Rattle.query.proofs.Shaping.{pairs_all}
 use Rattle.answer.specs.Entry.{question, answer_size}
-use Rattle.answer.proofs.Checking.{stands_front, told_asking, told_room, told_out, told_none, narrow}
+use Rattle.answer.proofs.Checking.{told_asking, told_room, told_out, told_none, narrow}
 use Rattle.answer.proofs.asking.checked.Goals as goal
 
 pub returns-in_err-question : goal.returns-in_err-question
 returns-in_err-question c =
-    let e = pairs_all c.args.lists.now c.of.result c.of.ensures in
-    let h = told_asking c.args.lists.now c.args.signs.now c.args.nodes.now c.args.out.now c.in_ok-check.ensures.refusal _ (rw e at c.in_err-question.ensures.refusal) in search rules
+    let h = told_asking c.args.lists.now c.args.signs.now c.args.nodes.now c.args.out.now c.in_ok-check.ensures.refusal _ (rw (pairs_all c.args.lists.now c.of.result c.of.ensures) at c.in_err-question.ensures.refusal) in search rules
 
 pub overflow_add-cost : goal.overflow_add-cost
 overflow_add-cost c =
-    let e = pairs_all c.args.lists.now c.of.result c.of.ensures in
-    let st = rw e at c.in_ok-question.ensures.value in let n = stands_front (shapes c.args.lists.now) (asked c.args.lists.now c.args.signs.now) c.in_ok-question.question.parts c.in_ok-question.question.signs st in
-    omega (arith, c.cost.ensures, n.cost, st.cost)
+    let st = rw (pairs_all c.args.lists.now c.of.result c.of.ensures) at c.in_ok-question.ensures.value in
+    omega (arith, c.cost.ensures, st.first.cost, st.cost)
 
 pub returns-then-room-cost : goal.returns-then-room-cost
 returns-then-room-cost c =
-    let e = pairs_all c.args.lists.now c.of.result c.of.ensures in
-    let st = rw e at c.in_ok-question.ensures.value in let n = stands_front (shapes c.args.lists.now) (asked c.args.lists.now c.args.signs.now) c.in_ok-question.question.parts c.in_ok-question.question.signs st in
-    record { refusal = told_room c.args.lists.now c.args.signs.now c.args.nodes.now c.args.out.now c.in_ok-check.ensures.refusal (rw e at c.in_ok-question.ensures.refusal) c.in_ok-room.room c.cost.result c.in_ok-room.ensures.value (c.cost.ensures ∙ n.cost) c.if-room-cost.true; value = tt }
+    let st = rw (pairs_all c.args.lists.now c.of.result c.of.ensures) at c.in_ok-question.ensures.value in
+    record { refusal = told_room c.args.lists.now c.args.signs.now c.args.nodes.now c.args.out.now c.in_ok-check.ensures.refusal (rw (pairs_all c.args.lists.now c.of.result c.of.ensures) at c.in_ok-question.ensures.refusal) c.in_ok-room.room c.cost.result c.in_ok-room.ensures.value (c.cost.ensures ∙ st.first.cost) c.if-room-cost.true; value = tt }
 
 pub overflow_mul-size : goal.overflow_mul-size
 overflow_mul-size c =
-    let e = pairs_all c.args.lists.now c.of.result c.of.ensures in
-    let st = rw e at c.in_ok-question.ensures.value in let n = stands_front (shapes c.args.lists.now) (asked c.args.lists.now c.args.signs.now) c.in_ok-question.question.parts c.in_ok-question.question.signs st in
-    let w = narrow c.args.lists.now c.args.signs.now c.args.nodes.now c.of.result c.of.ensures c.in_ok-check.ensures.refusal c.in_ok-question.question.parts c.in_ok-question.question.signs st in
-    omega (arith, c.width.ensures)
+    let st = rw (pairs_all c.args.lists.now c.of.result c.of.ensures) at c.in_ok-question.ensures.value in
+    let w = narrow c.args.nodes.now c.of.ensures c.in_ok-check.ensures.refusal st in omega (arith, c.width.ensures)
 
 pub overflow_add-size : goal.overflow_add-size
 overflow_add-size c =
-    let e = pairs_all c.args.lists.now c.of.result c.of.ensures in
-    let st = rw e at c.in_ok-question.ensures.value in let n = stands_front (shapes c.args.lists.now) (asked c.args.lists.now c.args.signs.now) c.in_ok-question.question.parts c.in_ok-question.question.signs st in
-    let w = narrow c.args.lists.now c.args.signs.now c.args.nodes.now c.of.result c.of.ensures c.in_ok-check.ensures.refusal c.in_ok-question.question.parts c.in_ok-question.question.signs st in
-    omega (arith, c.width.ensures)
+    let st = rw (pairs_all c.args.lists.now c.of.result c.of.ensures) at c.in_ok-question.ensures.value in
+    let w = narrow c.args.nodes.now c.of.ensures c.in_ok-check.ensures.refusal st in omega (arith, c.width.ensures)
 
 pub overflow_mul-size-2 : goal.overflow_mul-size-2
 overflow_mul-size-2 c =
-    let e = pairs_all c.args.lists.now c.of.result c.of.ensures in
-    let st = rw e at c.in_ok-question.ensures.value in let n = stands_front (shapes c.args.lists.now) (asked c.args.lists.now c.args.signs.now) c.in_ok-question.question.parts c.in_ok-question.question.signs st in
-    let w = narrow c.args.lists.now c.args.signs.now c.args.nodes.now c.of.result c.of.ensures c.in_ok-check.ensures.refusal c.in_ok-question.question.parts c.in_ok-question.question.signs st in
-    let l : c.lines.result ≤ 4096 = omega (arith, c.lines.ensures, n.lines, st.lines) in
+    let st = rw (pairs_all c.args.lists.now c.of.result c.of.ensures) at c.in_ok-question.ensures.value in
+    let w = narrow c.args.nodes.now c.of.ensures c.in_ok-check.ensures.refusal st in
+    let l : c.lines.result ≤ 4096 = omega (arith, c.lines.ensures, st.first.lines, st.lines) in
     let m : 1 + 2 * c.width.result ≤ 17 = omega (arith, c.width.ensures) in
     let k : c.lines.result * (1 + 2 * c.width.result) ≤ 4096 * 17 = mul-le-mul l m in omega arith
 
 pub returns-then-out-size : goal.returns-then-out-size
 returns-then-out-size c =
-    let e = pairs_all c.args.lists.now c.of.result c.of.ensures in
-    let st = rw e at c.in_ok-question.ensures.value in let n = stands_front (shapes c.args.lists.now) (asked c.args.lists.now c.args.signs.now) c.in_ok-question.question.parts c.in_ok-question.question.signs st in
-    let z : c.lines.result * (1 + 2 * c.width.result) ≡ answer_size (question c.args.lists.now c.args.signs.now) = rw (c.lines.ensures, c.width.ensures, n.lines, n.width) refl in
-    record { refusal = told_out c.args.lists.now c.args.signs.now c.args.nodes.now c.args.out.now c.in_ok-check.ensures.refusal (rw e at c.in_ok-question.ensures.refusal) c.in_ok-room.room c.cost.result (c.lines.result * (1 + 2 * c.width.result)) c.in_ok-room.ensures.value (c.cost.ensures ∙ n.cost) c.if-room-cost.false z c.if-out-size.true; value = tt }
+    let st = rw (pairs_all c.args.lists.now c.of.result c.of.ensures) at c.in_ok-question.ensures.value in
+    let z : c.lines.result * (1 + 2 * c.width.result) ≡ answer_size (question c.args.lists.now c.args.signs.now) = rw (c.lines.ensures, c.width.ensures, st.first.lines, st.first.width) refl in
+    record { refusal = told_out c.args.lists.now c.args.signs.now c.args.nodes.now c.args.out.now c.in_ok-check.ensures.refusal (rw (pairs_all c.args.lists.now c.of.result c.of.ensures) at c.in_ok-question.ensures.refusal) c.in_ok-room.room c.cost.result (c.lines.result * (1 + 2 * c.width.result)) c.in_ok-room.ensures.value (c.cost.ensures ∙ st.first.cost) c.if-room-cost.false z c.if-out-size.true; value = tt }
 
 pub returns : goal.returns
 returns c =
-    let e = pairs_all c.args.lists.now c.of.result c.of.ensures in
-    let st = rw e at c.in_ok-question.ensures.value in let n = stands_front (shapes c.args.lists.now) (asked c.args.lists.now c.args.signs.now) c.in_ok-question.question.parts c.in_ok-question.question.signs st in
-    let z : c.lines.result * (1 + 2 * c.width.result) ≡ answer_size (question c.args.lists.now c.args.signs.now) = rw (c.lines.ensures, c.width.ensures, n.lines, n.width) refl in
-    record { refusal = told_none c.args.lists.now c.args.signs.now c.args.nodes.now c.args.out.now c.in_ok-check.ensures.refusal (rw e at c.in_ok-question.ensures.refusal) c.in_ok-room.room c.cost.result (c.lines.result * (1 + 2 * c.width.result)) c.in_ok-room.ensures.value (c.cost.ensures ∙ n.cost) c.if-room-cost.false z c.if-out-size.false; value = st }
+    let st = rw (pairs_all c.args.lists.now c.of.result c.of.ensures) at c.in_ok-question.ensures.value in
+    let z : c.lines.result * (1 + 2 * c.width.result) ≡ answer_size (question c.args.lists.now c.args.signs.now) = rw (c.lines.ensures, c.width.ensures, st.first.lines, st.first.width) refl in
+    record { refusal = told_none c.args.lists.now c.args.signs.now c.args.nodes.now c.args.out.now c.in_ok-check.ensures.refusal (rw (pairs_all c.args.lists.now c.of.result c.of.ensures) at c.in_ok-question.ensures.refusal) c.in_ok-room.room c.cost.result (c.lines.result * (1 + 2 * c.width.result)) c.in_ok-room.ensures.value (c.cost.ensures ∙ st.first.cost) c.if-room-cost.false z c.if-out-size.false; value = st }

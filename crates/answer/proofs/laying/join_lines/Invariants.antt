@@ -1,6 +1,5 @@
-use Rattle.answer.specs.Planned.{plan_of}
-use Rattle.answer.specs.Laid.{Joined}
+use Rattle.answer.specs.Laid.{Added, joined}
 use Rattle.answer.proofs.laying.join_lines.Given as goal
 
 abbrev pub invariant-loop-i : goal.invariant-loop-i
-invariant-loop-i l = Joined l.asked.lists.now (plan_of l.p.left l.asked.shapes.now l.p.parts.now) l.p.base (plan_of l.q.left l.asked.shapes.now l.q.parts.now) l.q.base l.i l.initial.nodes l.nodes
+invariant-loop-i l = Added (joined l.initial.nodes l.p l.q) 1 l.i l.initial.nodes l.nodes

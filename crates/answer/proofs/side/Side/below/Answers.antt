@@ -1,7 +1,18 @@
-use Rattle.std.proofs.Common.{refl, ◌∙◌}
-use Rattle.std.proofs.lemmas.List.{take_rest}
-use Rattle.query.proofs.Left.{drop_within}
+use Rattle.std.proofs.Common.{refl, arith, rules}
+use Rattle.answer.proofs.Splitting.{some_left, lies}
 use Rattle.answer.proofs.side.Side.below.Goals as goal
 
-pub returns : goal.returns
-returns c = record { parts = take_rest c.args.self.parts.now c.min-k.result ∙ drop_within _ _ _ c.min-k.ensures; left = refl; base = refl }
+pub offset_bounds-self-k : goal.offset_bounds-self-k
+offset_bounds-self-k c = let l = lies c.requires in search rules
+
+pub slice_bounds-result-count : goal.slice_bounds-result-count
+slice_bounds-result-count c = let l = lies c.requires in omega arith
+
+pub slice_bounds-result-start : goal.slice_bounds-result-start
+slice_bounds-result-start c = let l = lies c.requires in search rules
+
+pub overflow_sub-result : goal.overflow_sub-result
+overflow_sub-result c = let h = some_left c.args.self.now in omega arith
+
+pub returns-clause-under : goal.returns-clause-under
+returns-clause-under c = let h = some_left c.args.self.now in record { asked = refl; fewer = omega arith; base = refl }
