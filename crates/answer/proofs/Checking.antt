@@ -6,7 +6,7 @@ use Rattle.condition.specs.Store.{count, store_fits, store_told, room, room_told
 use Rattle.condition.proofs.Refusing.{first_none, unless_none}
 use Rattle.list.specs.Layout.{lists_told, named_told, check_told, shapes}
 use Rattle.list.specs.Shapes.{AllShaped}
-use Rattle.list.specs.declared.shape.Shapes.{Shapes}
+use Rattle.list.specs.declared.shapes.Shapes.{Shapes}
 use Rattle.query.specs.Parts.{sized_of, Parted}
 use Rattle.query.specs.Parts as parts
 use Rattle.query.specs.Questions.{Stands}

@@ -4,7 +4,7 @@ use Rattle.std.proofs.lemmas.Bool.{ltb-true, and_parts}
 use Rattle.condition.specs.Store.{has_name}
 use Rattle.list.specs.Layout.{line_size, list_size, shapes_in, shapes, all_in, named_below}
 use Rattle.list.specs.Shapes.{shape_of, AllShaped}
-use Rattle.list.specs.declared.shape.Shapes.{Shapes}
+use Rattle.list.specs.declared.shapes.Shapes.{Shapes}
 use Rattle.list.proofs.Reading.{line_named, line_cell_named}
 use Rattle.query.specs.Ask.{Test, same, differ, is, is_not}
 use Rattle.query.specs.Reading.{Sized, all_below, test_fits}

@@ -1,7 +1,7 @@
 -- What the sign of a question says of its plan and of the questions below it.
 use Rattle.std.proofs.Common.{◌≡◌, ℕ, zero, suc, ◌+◌, ◌-◌, ◌<◌, ◌≤◌, min, List, length, take, drop, refl, ap, ◌∙◌, subst, arith, length-drop, length-take}
 use Rattle.list.specs.Shapes.{shape_of}
-use Rattle.list.specs.declared.shape.Shapes.{Shapes}
+use Rattle.list.specs.declared.shapes.Shapes.{Shapes}
 use Rattle.query.specs.Shapes.{test_of, part_at}
 use Rattle.query.specs.declared.Test.{Test}
 use Rattle.query.specs.declared.Sign.{Sign}

@@ -8,7 +8,7 @@ use Rattle.condition.proofs.Growing.{grown_cond}
 use Rattle.condition.proofs.Refusing.{first_none, unless_none}
 use Rattle.list.specs.Layout.{line_size, lines_in, all_in, all_pass, list_named, named_below}
 use Rattle.list.specs.Shapes.{shape_of, AllShaped}
-use Rattle.list.specs.declared.shape.Shapes.{Shapes}
+use Rattle.list.specs.declared.shapes.Shapes.{Shapes}
 use Rattle.list.proofs.Reading.{length_lists}
 use Rattle.answer.specs.Entry.{Stays}
 use Rattle.answer.specs.Plan.{Listed}

@@ -1,7 +1,7 @@
 -- That a question has a plan that fits has at most one proof, as a fact that a struct holds must have.
 use Rattle.std.specs.Prelude.{◌≡◌, ℕ, zero, suc, Bool, List}
 use Rattle.std.specs.Coded.{Coded-set, coded_bool, coded_ℕ, ×_prop, Π_prop, le_prop}
-use Rattle.list.specs.declared.shape.Shapes.{Shapes}
+use Rattle.list.specs.declared.shapes.Shapes.{Shapes}
 use Rattle.query.specs.Ask.{Test, same, differ, is, is_not}
 use Rattle.query.specs.declared.Part.{Part}
 use Rattle.query.specs.declared.Sign.{Sign}

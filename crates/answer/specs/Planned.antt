@@ -5,7 +5,7 @@
 --   Sound n sh ps ls c      and the plan fits the lists ls over c nodes
 use Rattle.std.specs.Prelude.{◌≡◌, ℕ, zero, suc, ◌<◌, ◌≤◌, List, length, take, drop}
 use Rattle.list.specs.Shapes.{shape_of}
-use Rattle.list.specs.declared.shape.Shapes.{Shapes}
+use Rattle.list.specs.declared.shapes.Shapes.{Shapes}
 use Rattle.query.specs.Shapes.{test_of, part_at}
 use Rattle.query.specs.declared.Sign.{Sign}
 use Rattle.query.specs.declared.Sign.TheVariants.{Rows, Keep, Columns, Join, Union, Without}

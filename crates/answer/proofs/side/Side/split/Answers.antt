@@ -6,9 +6,6 @@ use Rattle.answer.proofs.side.Side.split.Goals as goal
 pub bounds-self-0 : goal.bounds-self-0
 bounds-self-0 c = some_parts c.args.self.now
 
-pub get-requires : goal.get-requires
-get-requires c = (rows c.args.self.now c.in-Rows.t c.in-Rows.is).2
-
 pub unwrap-requires : goal.unwrap-requires
 unwrap-requires c = let r = rows c.args.self.now c.in-Rows.t c.in-Rows.is in grind (arith, r)
 
