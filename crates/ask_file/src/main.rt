@@ -1,7 +1,9 @@
 // Answers a file of questions on lists with gaps, read from standard input.
 #![tactic(auto)]
 
-use answer::{Reply, ask};
+ghost use Rattle.std.specs.Prelude.{◌<◌, length, OnOk};
+
+use answer::ask;
 use condition::{Condition, Refusal, cell_at};
 use file_bytes::{Input, read_lists, read_nodes};
 use list::check;
@@ -40,16 +42,14 @@ fn run(rt: &HostRuntime) -> anyhow::Result<()> {
     let mut input = Input::new(bytes.as_slice());
     match read_book(heap, &mut input) {
         Ok(book) => answer_all(rt, heap, &mut input, &book)?,
-        Err(refusal) => refuse(rt, refusal)?,
+        Err(refusal) => println!(rt; "{refusal}")?,
     }
     Ok(())
 }
 
 // The lists and the nodes, behind the one byte that says how many nodes there are.
 fn read_book(heap: Global, input: &mut Input) -> Result<Book, Refusal> {
-    let Some(count) = input.byte() else {
-        return Err(Refusal::BadLists(0));
-    };
+    let count = input.byte().ok_or(Refusal::BadLists(0))?;
     let lists = read_lists(heap, input, MOST_LINES)?;
     let nodes = read_nodes(heap, input, u64::from(count))?;
     check(lists.as_slice(), nodes.as_slice())?;
@@ -63,14 +63,11 @@ fn answer_all(
     input: &mut Input,
     book: &Book,
 ) -> anyhow::Result<()> {
-    for _ in 0..input.left() {
-        if input.left() == 0 {
-            return Ok(());
-        }
+    while input.left() > 0 {
         match read_question(heap, input, book.lists.as_slice()) {
             Ok(asked) => answer(rt, heap, book, &asked)?,
             Err(refusal) => {
-                refuse(rt, refusal)?;
+                println!(rt; "{refusal}")?;
                 return Ok(());
             }
         }
@@ -78,11 +75,11 @@ fn answer_all(
     Ok(())
 }
 
-// The next question and its rows.
-fn read_question(heap: Global, input: &mut Input, lists: &[u64]) -> Result<Asked, Refusal> {
-    let Some(count) = input.byte() else {
-        return Err(Refusal::BadQuestion(0));
-    };
+// The next question and its rows; something of the input is read then.
+fn read_question(heap: Global, input: &mut Input, lists: &[u64]) -> Result<Asked, Refusal>
+    ensures { OnOk result (length input.new.rest.now < length input.old.rest.now) }
+{
+    let count = input.byte().ok_or(Refusal::BadQuestion(0))?;
     let whole = (input.left() / 24) as u64;
     let mut signs = Vec::new(heap);
     input.numbers(
@@ -110,7 +107,7 @@ fn read_question(heap: Global, input: &mut Input, lists: &[u64]) -> Result<Asked
 // The answer line by line; or that it is too large.
 fn answer(rt: &HostRuntime, heap: Global, book: &Book, asked: &Asked) -> anyhow::Result<()> {
     if let Err(refusal) = asked.question.check_size() {
-        refuse(rt, refusal)?;
+        println!(rt; "{refusal}")?;
         return Ok(());
     }
     let width = asked.question.width();
@@ -127,8 +124,8 @@ fn answer(rt: &HostRuntime, heap: Global, book: &Book, asked: &Asked) -> anyhow:
         nodes.as_mut_slice(),
         out.as_mut_slice(),
     ) {
-        Reply::Done(_) => show_lines(rt, nodes.as_slice(), out.as_slice(), width)?,
-        Reply::Refused(refusal) => refuse(rt, refusal)?,
+        Ok(_) => show_lines(rt, nodes.as_slice(), out.as_slice(), width)?,
+        Err(refusal) => println!(rt; "{refusal}")?,
     }
     Ok(())
 }
@@ -136,41 +133,28 @@ fn answer(rt: &HostRuntime, heap: Global, book: &Book, asked: &Asked) -> anyhow:
 // The nodes, with room behind them for as many as asking may add.
 fn with_room(heap: Global, nodes: &[u64], cost: u64) -> Result<Vec<u64>, AllocError> {
     let mut room = Vec::from_slice(heap, nodes)?;
-    for _ in 0..cost.min(65536) * 5 + 10 {
-        room.push(0)?;
-    }
+    let more = 5 * cost.min(65536) as usize + 10;
+    room.resize(nodes.len().saturating_add(more), 0)?;
     Ok(room)
 }
 
 // The lines of an answer, w cells wide.
 fn show_lines(rt: &HostRuntime, nodes: &[u64], lines: &[u64], w: usize) -> io::Result<()> {
-    let size = w.saturating_mul(2).saturating_add(1);
-    let mut rest = lines;
-    for _ in 0..lines.len() {
-        if rest.len() < size {
-            return Ok(());
-        }
-        let (line, after) = rest.split_at(size);
+    for line in lines.chunks_exact(w.saturating_mul(2).saturating_add(1)) {
         show_line(rt, nodes, line)?;
-        rest = after;
     }
     Ok(())
 }
 
 // The cells of a line, and its condition in words.
 fn show_line(rt: &HostRuntime, nodes: &[u64], line: &[u64]) -> io::Result<()> {
-    for a in 0..line.len() / 2 {
-        if 2 * a + 2 < line.len() {
-            let cell = cell_at(line, 2 * a + 1);
-            print!(rt; "{cell} ")?;
-        }
+    let Some((node, cells)) = line.split_first() else {
+        return Ok(());
+    };
+    for cell in cells.chunks_exact(2) {
+        let cell = cell_at(cell, 0);
+        print!(rt; "{cell} ")?;
     }
-    let node = line.first().copied().unwrap_or(0);
-    let condition = Condition { nodes, node };
+    let condition = Condition { nodes, node: *node };
     println!(rt; "if {condition}")
-}
-
-fn refuse(rt: &HostRuntime, refusal: Refusal) -> io::Result<()> {
-    let (number, place) = refusal.told();
-    println!(rt; "refused {number} {place}")
 }
