@@ -1,7 +1,7 @@
 // How large the answers to large questions are; and, where the argument is `time`, how long asking takes for each unit of cost.
 #![tactic(auto)]
 
-use answer::{Reply, ask};
+use answer::ask;
 use anyhow::anyhow;
 use condition::Refusal;
 use query::Question;
@@ -159,16 +159,16 @@ fn measure(
     for _ in 0..repeats {
         set_count(memory.nodes.as_mut_slice(), 1);
         let start = Instant::now(rt)?;
-        let reply = ask(
+        let asked = ask(
             memory.lists.as_slice(),
             signs,
             memory.nodes.as_mut_slice(),
             memory.out.as_mut_slice(),
         );
         let time = start.elapsed(rt)?.as_nanos();
-        match reply {
-            Reply::Done(lines) => figures.lines = lines,
-            Reply::Refused(refusal) => return fail(refusal),
+        match asked {
+            Ok(lines) => figures.lines = lines,
+            Err(refusal) => return fail(refusal),
         }
         figures.time = figures.time.min(u64::try_from(time).unwrap_or(u64::MAX));
     }
@@ -185,9 +185,9 @@ fn set_count(nodes: &mut [u64], count: u64) {
 
 // A refusal is a fault of this program.
 fn fail(refusal: Refusal) -> anyhow::Result<Figures> {
-    match refusal.told().0 {
-        4 => Err(anyhow!("a question can't be read")),
-        5 => Err(anyhow!("a question is too large")),
+    match refusal {
+        Refusal::BadQuestion(_) => Err(anyhow!("a question can't be read")),
+        Refusal::TooManyLines | Refusal::TooCostly => Err(anyhow!("a question is too large")),
         _ => Err(anyhow!("a question is refused")),
     }
 }

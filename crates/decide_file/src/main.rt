@@ -43,9 +43,6 @@ fn tell(rt: &HostRuntime, decided: Result<Standing, Refusal>) -> io::Result<()> 
         Ok(Standing::Possible) => println!(rt; "shows yes lacks yes"),
         Ok(Standing::Impossible) => println!(rt; "shows no lacks yes"),
         Ok(Standing::NothingFits) => println!(rt; "shows no lacks no"),
-        Err(refusal) => {
-            let (number, place) = refusal.told();
-            println!(rt; "refused {number} {place}")
-        }
+        Err(refusal) => println!(rt; "{refusal}"),
     }
 }

@@ -1,7 +1,7 @@
 // Bad input of every kind, and what the libraries tell of it: one line a case, with the number and the place.
 #![tactic(auto)]
 
-use answer::{Reply, ask};
+use answer::ask;
 use condition::{Cell, Condition, Node, Refusal, append, find, read_node, room, store_count};
 use evaluate::{Filling, holds_at};
 use file_bytes::{Input, read_lists, read_nodes};
@@ -97,11 +97,25 @@ fn run(rt: &HostRuntime) -> anyhow::Result<()> {
 fn tell(rt: &HostRuntime, case: &str, res: Result<u64, Refusal>) -> io::Result<()> {
     match res {
         Ok(n) => println!(rt; "{case}: {n}"),
-        Err(refusal) => {
-            let (number, place) = refusal.told();
-            println!(rt; "{case}: refused {number} {place}")
-        }
+        Err(refusal) => println!(rt; "{case}: {refusal}"),
     }
+}
+
+// What is told of something at each length that it may be cut to; what passes leaves no trace.
+fn tell_cut<F: Fn(usize) -> Option<Refusal>>(
+    rt: &HostRuntime,
+    what: &str,
+    length: usize,
+    cut: F,
+) -> io::Result<()>
+    requires { (state : F) (n : _) → F.pre state n }
+{
+    print!(rt; "{what} cut at each length:")?;
+    for refusal in (0..length).filter_map(cut) {
+        let (number, place) = refusal.told();
+        print!(rt; " {number} {place},")?;
+    }
+    println!(rt; "")
 }
 
 fn lists(rt: &HostRuntime) -> io::Result<()> {
@@ -134,16 +148,19 @@ fn lists(rt: &HostRuntime) -> io::Result<()> {
     )
 }
 
+// At most the first n of some numbers.
+fn front(numbers: &[u64], n: usize) -> &[u64] {
+    numbers.get(..n).unwrap_or(numbers)
+}
+
 // The lists cut at every length.
 fn cut_lists(rt: &HostRuntime) -> io::Result<()> {
-    print!(rt; "lists cut at each length:")?;
-    for n in 0..LISTS.len() {
-        if let Err(refusal) = check_lists(&LISTS[0..n]) {
-            let (number, place) = refusal.told();
-            print!(rt; " {number} {place},")?;
-        }
-    }
-    println!(rt; "")
+    tell_cut(
+        rt,
+        "lists",
+        LISTS.len(),
+        |n| check_lists(front(&LISTS, n)).err(),
+    )
 }
 
 fn stores(rt: &HostRuntime) -> io::Result<()> {
@@ -239,10 +256,11 @@ fn file(
     bytes[8] = lines;
     bytes[12] = columns;
     let mut input = Input::new(&bytes);
-    match read_lists(heap, &mut input, 2) {
-        Ok(lists) => tell(rt, case, Ok(lists.len() as u64)),
-        Err(refusal) => tell(rt, case, Err(refusal)),
-    }
+    tell(
+        rt,
+        case,
+        read_lists(heap, &mut input, 2).map(|lists| lists.len() as u64),
+    )
 }
 
 // Files at the bounds: their lists and their nodes.
@@ -290,10 +308,7 @@ fn named(rt: &HostRuntime) -> io::Result<()> {
 
 // The lines of a question, or what was refused.
 fn lines(lists: &[u64], signs: &[u64]) -> Result<u64, Refusal> {
-    match Question::read(lists, signs) {
-        Ok(question) => Ok(question.lines()),
-        Err(refusal) => Err(refusal),
-    }
+    Ok(Question::read(lists, signs)?.lines())
 }
 
 // What is told of a question's signs on the baptisms and marriages.
@@ -334,14 +349,12 @@ fn columns(rt: &HostRuntime) -> io::Result<()> {
 
 // A question cut at every length.
 fn cut_questions(rt: &HostRuntime) -> io::Result<()> {
-    print!(rt; "a question cut at each length:")?;
-    for n in 0..MOTHERS.len() {
-        if let Err(refusal) = Question::read(&LISTS, &MOTHERS[0..n]) {
-            let (number, place) = refusal.told();
-            print!(rt; " {number} {place},")?;
-        }
-    }
-    println!(rt; "")
+    tell_cut(
+        rt,
+        "a question",
+        MOTHERS.len(),
+        |n| Question::read(&LISTS, front(&MOTHERS, n)).err(),
+    )
 }
 
 // Sixteen signs, and seventeen.
@@ -405,10 +418,11 @@ fn bound(
     }
     let mut out = vec![in heap; MOST; numbers]?;
     let lists = long_lists();
-    match ask(&lists, signs, store.as_mut_slice(), out.as_mut_slice()) {
-        Reply::Done(lines) => tell(rt, case, Ok(lines))?,
-        Reply::Refused(refusal) => tell(rt, case, Err(refusal))?,
-    }
+    tell(
+        rt,
+        case,
+        ask(&lists, signs, store.as_mut_slice(), out.as_mut_slice()),
+    )?;
     let count = store.as_slice().first().copied().unwrap_or(0);
     let unwritten = unwritten(out.as_slice());
     println!(rt; "  then {count} nodes, {unwritten} numbers not written")?;
@@ -417,13 +431,7 @@ fn bound(
 
 // How many numbers of an answer's slice are still the one that it was filled with.
 fn unwritten(numbers: &[u64]) -> u64 {
-    let mut count = 0u64;
-    for n in numbers {
-        if *n == MOST {
-            count = count.saturating_add(1);
-        }
-    }
-    count
+    numbers.iter().filter(|n| **n == MOST).count() as u64
 }
 
 // Asking at its bounds, and one past them.

@@ -2,7 +2,7 @@
 // those that the question gives on the filled lists.
 #![tactic(auto)]
 
-use answer::{Reply, ask};
+use answer::ask;
 use condition::{Refusal, cell_at};
 use evaluate::{Filling, holds_at};
 use list::rows;
@@ -201,13 +201,7 @@ fn draw_sign(random: &mut Random, kind: u64, signs: &mut Vec<u64>) -> Result<(),
 }
 
 fn put_sign(signs: &mut Vec<u64>, kind: u64, a: u64, b: u64, c: u64) -> Result<(), AllocError> {
-    signs.push(kind)?;
-    signs.push(a)?;
-    signs.push(b)?;
-    signs.push(c)?;
-    signs.push(0)?;
-    signs.push(0)?;
-    Ok(())
+    signs.extend_from_slice(&[kind, a, b, c, 0, 0])
 }
 
 // Asks, and tries the answer under every filling; a case that does not agree is shown whole.
@@ -222,7 +216,7 @@ fn trial(rt: &HostRuntime, heap: Global, case: &Case, score: &mut Score) -> anyh
     }
     let mut nodes = with_room(heap, case.nodes.as_slice(), question.cost())?;
     let mut out = vec![in heap; 0u64; question.lines().min(4096) as usize * 5]?;
-    if let Reply::Refused(refusal) = ask(
+    if let Err(refusal) = ask(
         case.lists.as_slice(),
         case.signs.as_slice(),
         nodes.as_mut_slice(),
@@ -260,20 +254,20 @@ fn not_read(
     refusal: Refusal,
     score: &mut Score,
 ) -> anyhow::Result<()> {
-    let (number, _) = refusal.told();
-    if number == 5 {
-        score.too_large = score.too_large.saturating_add(1);
-        return Ok(());
+    match refusal {
+        Refusal::TooManyLines | Refusal::TooCostly => {
+            score.too_large = score.too_large.saturating_add(1);
+            Ok(())
+        }
+        _ => fail(rt, case, "refused", refusal.told().0),
     }
-    fail(rt, case, "refused", number)
 }
 
 // The nodes, with room behind them for as many as asking may add.
 fn with_room(heap: Global, nodes: &[u64], cost: u64) -> Result<Vec<u64>, AllocError> {
     let mut room = Vec::from_slice(heap, nodes)?;
-    for _ in 0..cost.min(65536) * 5 + 10 {
-        room.push(0)?;
-    }
+    let more = 5 * cost.min(65536) as usize + 10;
+    room.resize(nodes.len().saturating_add(more), 0)?;
     Ok(room)
 }
 
@@ -330,27 +324,18 @@ fn filled_rows(
     filling: Filling,
     wanted: &[Vec<u64>],
 ) -> Result<Shown, Refusal> {
-    let mut rest = out;
-    let mut seen = 0usize;
-    for _ in 0..out.len() / 5 {
-        if rest.len() < 5 {
-            return Ok(Shown::Differ);
-        }
-        let (line, after) = rest.split_at(5);
-        rest = after;
+    let mut rows = wanted.iter();
+    for line in out.chunks_exact(5) {
         if holds_at(heap, nodes, line[0], filling)? {
-            match wanted.get(seen) {
-                Some(row) if same_row(line, row.as_slice(), &filling) => seen = seen.saturating_add(
-                    1,
-                ),
+            match rows.next() {
+                Some(row) if same_row(line, row.as_slice(), &filling) => {}
                 _ => return Ok(Shown::Differ),
             }
         }
     }
-    if seen == wanted.len() {
-        Ok(Shown::Agree(seen as u64))
-    } else {
-        Ok(Shown::Differ)
+    match rows.next() {
+        None => Ok(Shown::Agree(wanted.len() as u64)),
+        Some(_) => Ok(Shown::Differ),
     }
 }
 
@@ -363,11 +348,9 @@ fn same_row(line: &[u64], row: &[u64], filling: &Filling) -> bool {
 
 // The signs of a question that agreed, by their kinds.
 fn count_kinds(signs: &[u64], score: &mut Score) {
-    for i in 0..signs.len() / 6 {
-        let kind = signs.get(i.saturating_mul(6)).copied().unwrap_or(9);
-        if kind < 9 {
-            let k = kind as usize;
-            score.kinds[k] = score.kinds[k].saturating_add(1);
+    for sign in signs.chunks_exact(6) {
+        if let Some(count) = score.kinds.get_mut(sign[0] as usize) {
+            *count = count.saturating_add(1);
         }
     }
 }
