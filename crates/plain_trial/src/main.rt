@@ -58,7 +58,7 @@ fn answer(rt: &impl Print, setting: &Setting, asked: &Asked) -> anyhow::Result<(
         return Ok(rt.println(refusal)?);
     }
     let trial = Trial::of(setting, asked)?;
-    if trial.is_too_long() {
+    if trial.has_too_many_fillings() {
         return Ok(rt.println("too many fillings for plain trial")?);
     }
     let watch = trial.watch(asked.rows.clone()?)?;

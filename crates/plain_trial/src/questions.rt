@@ -34,6 +34,7 @@ pub enum Pairing {
     Without,
 }
 
+// The rows of a list, or what is made of the answers to the questions inside.
 #[derive(Drop)]
 pub enum Question {
     Rows(u64),
@@ -50,6 +51,7 @@ pub struct Size {
     pub cost: u64,
 }
 
+// What stands first of a question, which the questions that it needs follow.
 #[derive(Clone, Copy)]
 enum Sign {
     Rows(u64),
@@ -59,14 +61,14 @@ enum Sign {
     Pair(Pairing),
 }
 
-// The signs that are left to read, and the number of the next one. A sign of no kind is nothing.
+// The signs that are left to read, and how many were read. One that is of no kind is nothing.
 #[derive(Drop)]
 struct Signs<'a> {
     heap: Global,
     lists: &'a [List],
-    next: u64,
+    place: u64,
     rest: &'a [Option<Sign>],
-    ghost counted: { next + length rest.now < 2 ^ 64 },
+    ghost counted: { place + length rest.now < 2 ^ 64 },
 }
 
 // A question that was read, and how large its answer is.
@@ -154,19 +156,19 @@ impl Size {
 
     // That a question is not too large.
     pub fn check(&self) -> Result<(), Refusal> {
-        at_most(self.lines, MOST_LINES)?;
-        at_most(self.cost, MOST_COST)?;
-        at_most(self.cost, OWN_COST)
+        below(MOST_LINES + 1, self.lines)?;
+        below(MOST_COST + 1, self.cost)?;
+        below(OWN_COST + 1, self.cost)
     }
 }
 
-fn at_most(size: u64, most: u64) -> Result<(), Refusal>
-    requires { most + 1 < 2 ^ 64 }
-{
-    if size > most {
-        return Err(Refusal::TooLarge(most + 1));
+// That a size is below the first one that is too large.
+fn below(first: u64, size: u64) -> Result<(), Refusal> {
+    if size < first {
+        Ok(())
+    } else {
+        Err(Refusal::TooLarge(first))
     }
-    Ok(())
 }
 
 impl Sign {
@@ -201,7 +203,7 @@ impl Signs<'_> {
         ensures one_less { IfSome result (λ _. length self.new.rest.now < length self.old.rest.now) }
     {
         let sign = self.rest.split_off_first()?;
-        self.next += 1;
+        self.place += 1;
         *sign
     }
 
@@ -210,7 +212,7 @@ impl Signs<'_> {
         ensures { length self.new.rest.now ≤ length self.old.rest.now }
     {
         let heap = self.heap;
-        let bad = Refusal::BadSign(self.next);
+        let bad = Refusal::BadSign(self.place);
         let (question, size) = match self.next().ok_or(bad)? {
             Sign::Rows(t) => {
                 let list = self.lists.get(t as usize).ok_or(bad)?;
@@ -249,18 +251,19 @@ impl Asked {
         count: u8,
         lists: &[List],
     ) -> Result<Asked, Refusal> {
+        // Those that are there, sixteen at most.
         let signs: Vec<Option<Sign>> = (0..count.min(MOST_SIGNS))
             .map_while(|_| input.numbers().map(Sign::of))
             .collect(heap)?;
         let mut rest = Signs {
             heap,
             lists,
-            next: 0,
+            place: 0,
             rest: signs.as_slice(),
         };
         let Part { question, size } = rest.question()?;
-        if rest.next != u64::from(count) {
-            return Err(Refusal::BadSign(rest.next));
+        if rest.place != u64::from(count) {
+            return Err(Refusal::BadSign(rest.place));
         }
         let numbers = signs
             .iter()

@@ -1,5 +1,6 @@
 // The lists and the nodes of a file.
 ghost use Rattle.std.specs.Prelude.{◌≡◌, ◌<◌, ◌↔◌, IfOk, IfSome, IsSome, vec_len};
+ghost use Rattle.plain_trial.specs.declared.reading.TheConstants.{GAPS};
 
 use crate::telling::Refusal;
 use std::alloc::{AllocError, Global};
@@ -18,7 +19,7 @@ pub const GAPS: usize = 64;
 #[derive(Clone, Copy, PartialEq, Eq, PartialOrd, Ord)]
 pub struct Gap {
     pub name: usize,
-    ghost named: { name < 64 },
+    ghost named: { name < GAPS },
 }
 
 #[derive(Clone, Copy)]
@@ -98,7 +99,7 @@ impl<'a> Input<'a> {
 impl Gap {
     // The gap of that name, if there is such a name.
     pub fn named(name: u64) -> Option<Gap>
-        ensures valid { IsSome result ↔ (name < 64) }
+        ensures valid { IsSome result ↔ (name < GAPS) }
         ensures value { IfSome result (λ gap. gap.name ≡ name) }
     {
         let name = name as usize;

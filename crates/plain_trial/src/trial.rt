@@ -42,7 +42,7 @@ impl<'a> Trial<'a> {
         })
     }
 
-    pub fn is_too_long(&self) -> bool {
+    pub fn has_too_many_fillings(&self) -> bool {
         self.choices.count() > MOST_FILLINGS
     }
 
@@ -87,26 +87,27 @@ impl<'a> Trial<'a> {
 
     // The rows under the first filling that fits what is known, tried in the order of its choices.
     fn first_rows(&self) -> Result<Option<Vec<Row>>, AllocError> {
-        let Setting {
-            heap,
-            names,
+        let Setting { names, known, .. } = self.setting;
+        Choices::in_order(
+            self.setting.heap,
+            &names.gaps,
+            self.others.as_slice(),
             known,
-            ..
-        } = self.setting;
-        Choices::in_order(*heap, &names.gaps, self.others.as_slice(), known)?
-            .fillings()
-            .find_map(|filling| self.rows_under(&filling).transpose())
-            .transpose()
+        )?
+        .fillings()
+        .find_map(|filling| self.rows_under(&filling).transpose())
+        .transpose()
     }
 
     // The rows that the question gives under a filling; nothing where that does not fit what is known.
     fn rows_under(&self, filling: &Filling) -> Result<Option<Vec<Row>>, AllocError> {
-        let Setting { heap, book, .. } = self.setting;
-        let case = Case::of(*heap, book, filling)?;
+        let heap = self.setting.heap;
+        let book = &self.setting.book;
+        let case = Case::of(heap, book, filling)?;
         if !case.holds(book.known) {
             return Ok(None);
         }
-        let lists = case.lists(*heap, book.lists.as_slice())?;
-        self.question.ask(*heap, lists.as_slice()).map(Some)
+        let lists = case.lists(heap, book.lists.as_slice())?;
+        self.question.ask(heap, lists.as_slice()).map(Some)
     }
 }

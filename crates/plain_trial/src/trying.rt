@@ -102,6 +102,11 @@ impl<'a> Case<'a> {
 }
 
 impl Choice {
+    fn any_of(heap: Global, gap: Gap, numbers: &BTreeSet<u64>) -> Result<Choice, AllocError> {
+        let numbers = numbers.iter().copied().collect(heap)?;
+        Ok(Choice { gap, numbers })
+    }
+
     // Numbers that stand nowhere before those that what is known names, in rising order. The gap takes its own of the former first,
     // and no other where what is known does not name it.
     fn in_order(
@@ -129,10 +134,7 @@ impl Choices {
     ) -> Result<Choices, AllocError> {
         let each = gaps
             .iter()
-            .map(|gap| -> Result<Choice, AllocError> {
-                let numbers = numbers.iter().copied().collect(heap)?;
-                Ok(Choice { gap: *gap, numbers })
-            })
+            .map(|gap| Choice::any_of(heap, *gap, numbers))
             .try_collect(heap)?;
         Ok(Choices { each })
     }
