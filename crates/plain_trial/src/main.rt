@@ -27,7 +27,7 @@ fn main(rt: HostRuntime) -> anyhow::Result<()> {
     let heap = rt.alloc();
     let mut bytes = Vec::new(heap);
     rt.stdin().read_to_end(&mut bytes)?;
-    let mut input = Input::new(bytes.as_slice());
+    let mut input = Input::new(&bytes);
     match Book::read(heap, &mut input) {
         Ok(book) => answer_all(&rt, &Setting::of(heap, book)?, &mut input),
         Err(refusal) => Ok(rt.println(refusal)?),
@@ -39,12 +39,12 @@ fn answer_all(rt: &impl Print, setting: &Setting, input: &mut Input) -> anyhow::
     if setting.names.gaps.len() > MOST_GAPS {
         return Ok(rt.println("too many gaps for plain trial")?);
     }
-    // Each takes a byte at least.
+    // There are no more of them than bytes.
     for _ in 0..input.left() {
         let Some(count) = input.byte() else {
             break;
         };
-        match Asked::read(setting.heap, input, count, setting.book.lists.as_slice()) {
+        match Asked::read(setting.heap, input, count, &setting.book.lists) {
             Ok(asked) => answer(rt, setting, &asked)?,
             Err(refusal) => return Ok(rt.println(refusal)?),
         }
@@ -80,7 +80,7 @@ fn tell_sure(rt: &impl Print, watch: &Watch) -> io::Result<()> {
 // Each row asked about; a sure one only where the sure rows are not listed.
 fn tell_asked(rt: &impl Print, trial: &Trial, watch: &Watch) -> io::Result<()> {
     for watched in &watch.asked {
-        if let Err(refusal) = trial.check_row(watched.row.as_slice()) {
+        if let Err(refusal) = trial.check_row(&watched.row) {
             println!(rt; "{refusal}")?;
         } else if !watched.always || watch.listed.is_err() {
             println!(rt; "{watched}")?;

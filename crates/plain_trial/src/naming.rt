@@ -1,6 +1,6 @@
 // Which gaps and numbers the lines of an answer name: where there are too many, a row is not decided.
 use crate::questions::Test;
-use crate::reading::{Book, Cell, Gap, Line, Node};
+use crate::reading::{Book, Cell, Gap, Line, List, Node};
 use crate::rows::Entry;
 use crate::telling::Refusal;
 use std::alloc::{AllocError, Global};
@@ -35,15 +35,25 @@ impl Names {
     // Everything that stands in the lists and in comparisons.
     pub fn of_book(heap: Global, book: &Book) -> Result<Names, AllocError> {
         let mut names = Names::none(heap);
-        for line in book.lists.iter().flat_map(|list| &list.lines) {
-            names.add_cells(line.cells.as_slice())?;
+        names.add_lists(&book.lists)?;
+        names.add_comparisons(&book.nodes)?;
+        Ok(names)
+    }
+
+    fn add_lists(&mut self, lists: &[List]) -> Result<(), AllocError> {
+        for line in lists.iter().flat_map(|list| &list.lines) {
+            self.add_cells(&line.cells)?;
         }
-        for node in &book.nodes {
+        Ok(())
+    }
+
+    fn add_comparisons(&mut self, nodes: &[Node]) -> Result<(), AllocError> {
+        for node in nodes {
             if let Node::Equal(a, b) = *node {
-                names.add_cells(&[a, b])?;
+                self.add_cells(&[a, b])?;
             }
         }
-        Ok(names)
+        Ok(())
     }
 
     // What a node names, by what the nodes before it name. A node may name only earlier ones.
@@ -146,7 +156,7 @@ impl Entry for NamedLine {
 
     fn beside(&self, other: &NamedLine) -> Result<NamedLine, AllocError> {
         let mut line = self.clone()?;
-        line.cells.extend_from_slice(other.cells.as_slice())?;
+        line.cells.extend_from_slice(&other.cells)?;
         line.names.add_names(&other.names)?;
         Ok(line)
     }
@@ -154,8 +164,8 @@ impl Entry for NamedLine {
     // Its condition has, for each of the others, that one's condition and all cells of both.
     fn without(mut self, others: &[NamedLine]) -> Result<Option<NamedLine>, AllocError> {
         for other in others {
-            self.names.add_cells(self.cells.as_slice())?;
-            self.names.add_cells(other.cells.as_slice())?;
+            self.names.add_cells(&self.cells)?;
+            self.names.add_cells(&other.cells)?;
             self.names.add_names(&other.names)?;
         }
         Ok(Some(self))

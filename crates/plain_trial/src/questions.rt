@@ -259,7 +259,7 @@ impl Asked {
             heap,
             lists,
             place: 0,
-            rest: signs.as_slice(),
+            rest: &signs,
         };
         let Part { question, size } = rest.question()?;
         if rest.place != u64::from(count) {

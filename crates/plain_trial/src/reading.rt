@@ -221,7 +221,7 @@ impl Book {
     {
         let mut earlier = Vec::new(heap);
         for node in &self.nodes {
-            let worth = of(*node, earlier.as_slice())?;
+            let worth = of(*node, &earlier)?;
             earlier.push(worth)?;
         }
         Ok(earlier)

@@ -1,10 +1,10 @@
-// A question asked of lists of entries, which may be rows of numbers.
+// A question asked of lists, whether of rows or of lines whose names are followed.
 use crate::questions::{Pairing, Question, Test};
 use std::alloc::{AllocError, Global};
 
 pub type Row = Vec<u64>;
 
-// What a question is asked of.
+// What stands in the lists that a question is asked of, and what each kind of question makes of it.
 pub trait Entry: Clone + Drop {
     // What a test makes of it; nothing where it is not kept.
     fn tested(self, test: Test) -> Result<Option<Self>, AllocError>;
@@ -33,7 +33,7 @@ impl Question {
             }
             Question::Columns(columns, question) => {
                 let entries = question.ask(heap, lists)?;
-                cut(heap, columns.as_slice(), entries)
+                cut(heap, &columns, entries)
             }
             Question::Pair(pairing, first, second) => {
                 let entries = first.ask(heap, lists)?;
@@ -65,14 +65,14 @@ fn paired<E: Entry>(
     mut others: Vec<E>,
 ) -> Result<Vec<E>, AllocError> {
     match pairing {
-        Pairing::Join => joined(heap, entries.as_slice(), others.as_slice()),
+        Pairing::Join => joined(heap, &entries, &others),
         Pairing::Union => {
             entries.append(&mut others)?;
             Ok(entries)
         }
         Pairing::Without => entries
             .into_iter()
-            .filter_map(|entry| entry.without(others.as_slice()).transpose())
+            .filter_map(|entry| entry.without(&others).transpose())
             .try_collect(heap),
     }
 }
@@ -101,7 +101,7 @@ impl Entry for Row {
 
     fn beside(&self, other: &Row) -> Result<Row, AllocError> {
         let mut row = self.clone()?;
-        row.extend_from_slice(other.as_slice())?;
+        row.extend_from_slice(&other)?;
         Ok(row)
     }
 

@@ -22,10 +22,10 @@ impl Setting {
         let lists = book
             .lists
             .iter()
-            .map(|list| named_lines(heap, list.lines.as_slice(), conditions.as_slice()))
+            .map(|list| named_lines(heap, &list.lines, &conditions))
             .try_collect(heap)?;
         let mut known = Names::none(heap);
-        known.add_one_of(conditions.as_slice(), book.known)?;
+        known.add_one_of(&conditions, book.known)?;
         Ok(Setting {
             heap,
             book,

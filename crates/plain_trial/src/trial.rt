@@ -36,7 +36,7 @@ impl<'a> Trial<'a> {
         Ok(Trial {
             setting,
             question: &asked.question,
-            lines: asked.question.ask(heap, setting.lists.as_slice())?,
+            lines: asked.question.ask(heap, &setting.lists)?,
             others,
             choices: Choices::alike(heap, gaps, &numbers)?,
         })
@@ -51,7 +51,7 @@ impl<'a> Trial<'a> {
         let mut names = self.setting.known.clone()?;
         names.numbers.extend(row)?;
         for line in self.lines.iter().filter(|line| line.agrees(row)) {
-            names.add_cells(line.cells.as_slice())?;
+            names.add_cells(&line.cells)?;
             names.add_names(&line.names)?;
         }
         names.check()
@@ -65,7 +65,7 @@ impl<'a> Trial<'a> {
         };
         for filling in self.choices.fillings() {
             if let Some(rows) = self.rows_under(&filling)? {
-                watch.look(rows.as_slice());
+                watch.look(&rows);
             }
         }
         Ok(watch)
@@ -79,7 +79,7 @@ impl<'a> Trial<'a> {
         rows.dedup();
         for row in &rows {
             if !row.iter().any(|n| self.others.contains(n)) {
-                self.check_row(row.as_slice())?;
+                self.check_row(&row)?;
             }
         }
         Ok(Watched::all(self.setting.heap, rows)?)
@@ -88,15 +88,10 @@ impl<'a> Trial<'a> {
     // The rows under the first filling that fits what is known, tried in the order of its choices.
     fn first_rows(&self) -> Result<Option<Vec<Row>>, AllocError> {
         let Setting { names, known, .. } = self.setting;
-        Choices::in_order(
-            self.setting.heap,
-            &names.gaps,
-            self.others.as_slice(),
-            known,
-        )?
-        .fillings()
-        .find_map(|filling| self.rows_under(&filling).transpose())
-        .transpose()
+        Choices::in_order(self.setting.heap, &names.gaps, &self.others, known)?
+            .fillings()
+            .find_map(|filling| self.rows_under(&filling).transpose())
+            .transpose()
     }
 
     // The rows that the question gives under a filling; nothing where that does not fit what is known.
@@ -107,7 +102,7 @@ impl<'a> Trial<'a> {
         if !case.holds(book.known) {
             return Ok(None);
         }
-        let lists = case.lists(heap, book.lists.as_slice())?;
-        self.question.ask(heap, lists.as_slice()).map(Some)
+        let lists = case.lists(heap, &book.lists)?;
+        self.question.ask(heap, &lists).map(Some)
     }
 }

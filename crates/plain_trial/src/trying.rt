@@ -74,14 +74,14 @@ impl<'a> Case<'a> {
     }
 
     pub fn holds(&self, node: u64) -> bool {
-        holds(self.truths.as_slice(), node)
+        holds(&self.truths, node)
     }
 
     // The rows of each list.
     pub fn lists(&self, heap: Global, lists: &[List]) -> Result<Vec<Vec<Row>>, AllocError> {
         lists
             .iter()
-            .map(|list| self.rows(heap, list.lines.as_slice()))
+            .map(|list| self.rows(heap, &list.lines))
             .try_collect(heap)
     }
 
@@ -89,7 +89,7 @@ impl<'a> Case<'a> {
         lines
             .iter()
             .filter(|line| self.holds(line.node))
-            .map(|line| self.row(heap, line.cells.as_slice()))
+            .map(|line| self.row(heap, &line.cells))
             .try_collect(heap)
     }
 
