@@ -1,22 +1,24 @@
 // Which gaps and numbers the lines of an answer name: where there are too many, a row is not decided.
-use crate::questions::{Question, Test};
-use crate::reading::{Book, Cell, Line, List, Node};
+use crate::questions::Test;
+use crate::reading::{Book, Cell, Gap, Line, List, Node};
+use crate::rows::Entry;
 use crate::telling::Refusal;
 use std::alloc::{AllocError, Global};
+use std::collections::BTreeSet;
 
 const MOST_GAPS: usize = 6;
 
 const MOST_NUMBERS: usize = 8;
 
-// Gaps and numbers, each once.
+// Gaps and numbers.
 #[derive(Clone, Drop)]
 pub struct Names {
-    pub gaps: Vec<u64>,
-    pub numbers: Vec<u64>,
+    pub gaps: BTreeSet<Gap>,
+    pub numbers: BTreeSet<u64>,
 }
 
 // The cells of a line, and what its condition names.
-#[derive(Drop)]
+#[derive(Clone, Drop)]
 pub struct NamedLine {
     pub cells: Vec<Cell>,
     pub names: Names,
@@ -25,37 +27,48 @@ pub struct NamedLine {
 impl Names {
     pub fn none(heap: Global) -> Names {
         Names {
-            gaps: Vec::new(heap),
-            numbers: Vec::new(heap),
+            gaps: BTreeSet::new(heap),
+            numbers: BTreeSet::new(heap),
         }
     }
 
-    pub fn add_gap(&mut self, gap: u64) -> Result<(), AllocError> {
-        if !self.gaps.as_slice().contains(&gap) {
-            self.gaps.push(gap)?;
+    // Everything that stands in the lists and in comparisons.
+    pub fn of_book(heap: Global, book: &Book) -> Result<Names, AllocError> {
+        let mut names = Names::none(heap);
+        names.add_lists(&book.lists)?;
+        names.add_comparisons(&book.nodes)?;
+        Ok(names)
+    }
+
+    fn add_lists(&mut self, lists: &[List]) -> Result<(), AllocError> {
+        for line in lists.iter().flat_map(|list| &list.lines) {
+            self.add_cells(&line.cells)?;
         }
         Ok(())
     }
 
-    pub fn add_number(&mut self, number: u64) -> Result<(), AllocError> {
-        if !self.numbers.as_slice().contains(&number) {
-            self.numbers.push(number)?;
+    fn add_comparisons(&mut self, nodes: &[Node]) -> Result<(), AllocError> {
+        for node in nodes {
+            if let Node::Equal(a, b) = *node {
+                self.add_cells(&[a, b])?;
+            }
         }
         Ok(())
     }
 
-    pub fn add_numbers(&mut self, numbers: &[u64]) -> Result<(), AllocError> {
-        for number in numbers {
-            self.add_number(*number)?;
+    // What a node names, by what the nodes before it name. A node may name only earlier ones.
+    pub fn of_node(heap: Global, node: Node, earlier: &[Names]) -> Result<Names, AllocError> {
+        let mut names = Names::none(heap);
+        match node {
+            Node::Always | Node::Never => {}
+            Node::Equal(a, b) => names.add_cells(&[a, b])?,
+            Node::Not(i) => names.add_one_of(earlier, i)?,
+            Node::Both(i, j) | Node::Either(i, j) => {
+                names.add_one_of(earlier, i)?;
+                names.add_one_of(earlier, j)?;
+            }
         }
-        Ok(())
-    }
-
-    pub fn add_cell(&mut self, cell: Cell) -> Result<(), AllocError> {
-        match cell {
-            Cell::Number(number) => self.add_number(number),
-            Cell::Gap(gap) => self.add_gap(gap),
-        }
+        Ok(names)
     }
 
     pub fn add_cells(&mut self, cells: &[Cell]) -> Result<(), AllocError> {
@@ -65,15 +78,21 @@ impl Names {
         Ok(())
     }
 
+    fn add_cell(&mut self, cell: Cell) -> Result<(), AllocError> {
+        match cell {
+            Cell::Number(number) => self.numbers.insert(number)?,
+            Cell::Gap(gap) => self.gaps.insert(gap)?,
+        };
+        Ok(())
+    }
+
     pub fn add_names(&mut self, other: &Names) -> Result<(), AllocError> {
-        for gap in other.gaps.as_slice() {
-            self.add_gap(*gap)?;
-        }
-        self.add_numbers(other.numbers.as_slice())
+        self.gaps.extend(&other.gaps)?;
+        self.numbers.extend(&other.numbers)
     }
 
     // What one of some conditions names, if there is such a one.
-    fn add_one_of(&mut self, conditions: &[Names], i: u64) -> Result<(), AllocError> {
+    pub fn add_one_of(&mut self, conditions: &[Names], i: u64) -> Result<(), AllocError> {
         match conditions.get(i as usize) {
             Some(names) => self.add_names(names),
             None => Ok(()),
@@ -92,86 +111,17 @@ impl Names {
     }
 }
 
-// What each node names. A node may name only earlier ones.
-pub fn nodes_names(heap: Global, nodes: &[Node]) -> Result<Vec<Names>, AllocError> {
-    let mut earlier = Vec::new(heap);
-    for node in nodes {
-        let names = node_names(heap, *node, earlier.as_slice())?;
-        earlier.push(names)?;
-    }
-    Ok(earlier)
-}
-
-fn node_names(heap: Global, node: Node, earlier: &[Names]) -> Result<Names, AllocError> {
-    let mut names = Names::none(heap);
-    match node {
-        Node::Always | Node::Never => {}
-        Node::Equal(a, b) => {
-            names.add_cell(a)?;
-            names.add_cell(b)?;
-        }
-        Node::Not(i) => names.add_one_of(earlier, i)?,
-        Node::Both(i, j) | Node::Either(i, j) => {
-            names.add_one_of(earlier, i)?;
-            names.add_one_of(earlier, j)?;
-        }
-    }
-    Ok(names)
-}
-
-// Everything that stands in the lists and in comparisons.
-pub fn book_names(heap: Global, book: &Book) -> Result<Names, AllocError> {
-    let mut names = Names::none(heap);
-    for list in book.lists.as_slice() {
-        for line in list.lines.as_slice() {
-            names.add_cells(line.cells.as_slice())?;
-        }
-    }
-    for node in book.nodes.as_slice() {
-        if let Node::Equal(a, b) = *node {
-            names.add_cell(a)?;
-            names.add_cell(b)?;
-        }
-    }
-    Ok(names)
-}
-
-// The lines of each list.
-pub fn named_lists(
-    heap: Global,
-    lists: &[List],
-    conditions: &[Names],
-) -> Result<Vec<Vec<NamedLine>>, AllocError> {
-    let mut out = Vec::new(heap);
-    for list in lists {
-        out.push(named_lines(heap, list.lines.as_slice(), conditions)?)?;
-    }
-    Ok(out)
-}
-
-fn named_lines(
-    heap: Global,
-    lines: &[Line],
-    conditions: &[Names],
-) -> Result<Vec<NamedLine>, AllocError> {
-    let mut out = Vec::new(heap);
-    for line in lines {
+impl NamedLine {
+    // A line of a list, by what each condition names.
+    pub fn of(heap: Global, line: &Line, conditions: &[Names]) -> Result<NamedLine, AllocError> {
         let mut names = Names::none(heap);
         names.add_one_of(conditions, line.node)?;
         let cells = line.cells.clone()?;
-        out.push(NamedLine { cells, names })?;
-    }
-    Ok(out)
-}
-
-impl NamedLine {
-    fn copy(&self) -> Result<NamedLine, AllocError> {
-        let cells = self.cells.clone()?;
-        let names = self.names.clone()?;
         Ok(NamedLine { cells, names })
     }
 
-    fn cell(&self, a: u64) -> Cell {
+    // The cell in a column, the number 0 where there is no such column.
+    fn at(&self, a: u64) -> Cell {
         self.cells
             .get(a as usize)
             .copied()
@@ -179,167 +129,45 @@ impl NamedLine {
     }
 
     // Whether its known cells agree with a row.
-    fn agrees(&self, row: &[u64]) -> bool {
-        for (cell, n) in self.cells.as_slice().iter().zip(row) {
-            match *cell {
-                Cell::Number(number) if number != *n => return false,
-                _ => {}
-            }
-        }
-        true
+    pub fn agrees(&self, row: &[u64]) -> bool {
+        self.cells.iter().zip(row).all(|(cell, n)| match *cell {
+            Cell::Number(number) => number == *n,
+            Cell::Gap(_) => true,
+        })
+    }
+}
+
+impl Entry for NamedLine {
+    // Its condition names what is compared too.
+    fn tested(mut self, test: Test) -> Result<Option<NamedLine>, AllocError> {
+        let compared = match test {
+            Test::Same(a, b) | Test::Differ(a, b) => [self.at(a), self.at(b)],
+            Test::Is(a, number) | Test::IsNot(a, number) => [self.at(a), Cell::Number(number)],
+        };
+        self.names.add_cells(&compared)?;
+        Ok(Some(self))
     }
 
-    fn tested(mut self, test: Test) -> Result<NamedLine, AllocError> {
-        match test {
-            Test::Same(a, b) | Test::Differ(a, b) => {
-                let first = self.cell(a);
-                let second = self.cell(b);
-                self.names.add_cell(first)?;
-                self.names.add_cell(second)?;
-            }
-            Test::Is(a, number) | Test::IsNot(a, number) => {
-                let cell = self.cell(a);
-                self.names.add_cell(cell)?;
-                self.names.add_number(number)?;
-            }
-        }
-        Ok(self)
+    fn cut(self, heap: Global, columns: &[u64]) -> Result<NamedLine, AllocError> {
+        let cells = columns.iter().map(|a| self.at(*a)).collect(heap)?;
+        let names = self.names;
+        Ok(NamedLine { cells, names })
     }
 
     fn beside(&self, other: &NamedLine) -> Result<NamedLine, AllocError> {
-        let mut line = self.copy()?;
-        line.cells.extend_from_slice(other.cells.as_slice())?;
+        let mut line = self.clone()?;
+        line.cells.extend_from_slice(&other.cells)?;
         line.names.add_names(&other.names)?;
         Ok(line)
     }
 
     // Its condition has, for each of the others, that one's condition and all cells of both.
-    fn less(mut self, others: &[NamedLine]) -> Result<NamedLine, AllocError> {
+    fn without(mut self, others: &[NamedLine]) -> Result<Option<NamedLine>, AllocError> {
         for other in others {
-            self.names.add_cells(self.cells.as_slice())?;
-            self.names.add_cells(other.cells.as_slice())?;
+            self.names.add_cells(&self.cells)?;
+            self.names.add_cells(&other.cells)?;
             self.names.add_names(&other.names)?;
         }
-        Ok(self)
+        Ok(Some(self))
     }
-}
-
-impl Question {
-    // The lines of its answer.
-    pub fn named(
-        &self,
-        heap: Global,
-        lists: &[Vec<NamedLine>],
-    ) -> Result<Vec<NamedLine>, AllocError> {
-        match self {
-            Question::Rows(t) => copied(heap, lists, *t),
-            Question::Keep(test, question) => {
-                let lines = question.named(heap, lists)?;
-                tested(heap, *test, lines)
-            }
-            Question::Columns(columns, question) => {
-                let lines = question.named(heap, lists)?;
-                cut(heap, columns.as_slice(), lines)
-            }
-            Question::Join(first, second) => {
-                let lines = first.named(heap, lists)?;
-                let others = second.named(heap, lists)?;
-                joined(heap, lines.as_slice(), others.as_slice())
-            }
-            Question::Union(first, second) => {
-                let lines = first.named(heap, lists)?;
-                let others = second.named(heap, lists)?;
-                united(lines, others)
-            }
-            Question::Without(first, second) => {
-                let lines = first.named(heap, lists)?;
-                let others = second.named(heap, lists)?;
-                less(heap, lines, others.as_slice())
-            }
-        }
-    }
-}
-
-fn copied(heap: Global, lists: &[Vec<NamedLine>], t: u64) -> Result<Vec<NamedLine>, AllocError> {
-    let mut out = Vec::new(heap);
-    if let Some(lines) = lists.get(t as usize) {
-        for line in lines.as_slice() {
-            out.push(line.copy()?)?;
-        }
-    }
-    Ok(out)
-}
-
-fn tested(heap: Global, test: Test, lines: Vec<NamedLine>) -> Result<Vec<NamedLine>, AllocError> {
-    let mut out = Vec::new(heap);
-    for line in lines {
-        out.push(line.tested(test)?)?;
-    }
-    Ok(out)
-}
-
-fn cut(heap: Global, columns: &[u64], lines: Vec<NamedLine>) -> Result<Vec<NamedLine>, AllocError> {
-    let mut out = Vec::new(heap);
-    for line in lines {
-        let mut cells = Vec::new(heap);
-        for a in columns {
-            cells.push(line.cell(*a))?;
-        }
-        let names = line.names;
-        out.push(NamedLine { cells, names })?;
-    }
-    Ok(out)
-}
-
-fn joined(
-    heap: Global,
-    lines: &[NamedLine],
-    others: &[NamedLine],
-) -> Result<Vec<NamedLine>, AllocError> {
-    let mut out = Vec::new(heap);
-    for line in lines {
-        for other in others {
-            out.push(line.beside(other)?)?;
-        }
-    }
-    Ok(out)
-}
-
-fn united(lines: Vec<NamedLine>, others: Vec<NamedLine>) -> Result<Vec<NamedLine>, AllocError> {
-    let mut out = lines;
-    for line in others {
-        out.push(line)?;
-    }
-    Ok(out)
-}
-
-fn less(
-    heap: Global,
-    lines: Vec<NamedLine>,
-    others: &[NamedLine],
-) -> Result<Vec<NamedLine>, AllocError> {
-    let mut out = Vec::new(heap);
-    for line in lines {
-        out.push(line.less(others)?)?;
-    }
-    Ok(out)
-}
-
-// That what is known and the lines that decide a row name few enough gaps, and with the row few enough numbers.
-pub fn check_row(
-    heap: Global,
-    known: &Names,
-    lines: &[NamedLine],
-    row: &[u64],
-) -> Result<(), Refusal> {
-    let mut names = Names::none(heap);
-    names.add_names(known)?;
-    names.add_numbers(row)?;
-    for line in lines {
-        if line.agrees(row) {
-            names.add_cells(line.cells.as_slice())?;
-            names.add_names(&line.names)?;
-        }
-    }
-    names.check()
 }

@@ -1,9 +1,12 @@
 // Questions, read from their signs.
-use crate::reading::{Input, List};
-use crate::telling::Refusal;
-use std::alloc::{AllocError, Global};
+ghost use Rattle.std.specs.Prelude.{◌+◌, ◌^◌, ◌<◌, ◌≤◌, length, IfSome};
 
-const MOST_SIGNS: u64 = 16;
+use crate::reading::{Input, List};
+use crate::rows::Row;
+use crate::telling::Refusal;
+use std::alloc::Global;
+
+const MOST_SIGNS: u8 = 16;
 
 const MOST_WIDTH: u64 = 8;
 
@@ -23,14 +26,21 @@ pub enum Test {
     IsNot(u64, u64),
 }
 
+// How two answers are put together.
+#[derive(Clone, Copy)]
+pub enum Pairing {
+    Join,
+    Union,
+    Without,
+}
+
+// The rows of a list, or what is made of the answers to the questions inside.
 #[derive(Drop)]
 pub enum Question {
     Rows(u64),
     Keep(Test, Box<Question>),
     Columns(Vec<u64>, Box<Question>),
-    Join(Box<Question>, Box<Question>),
-    Union(Box<Question>, Box<Question>),
-    Without(Box<Question>, Box<Question>),
+    Pair(Pairing, Box<Question>, Box<Question>),
 }
 
 // How large the answer to a question is.
@@ -41,24 +51,31 @@ pub struct Size {
     pub cost: u64,
 }
 
+// What stands first of a question, which the questions that it needs follow.
 #[derive(Clone, Copy)]
 enum Sign {
     Rows(u64),
     Keep(Test),
     // How many columns, and which.
     Columns(u64, [u64; 4]),
-    Join,
-    Union,
-    Without,
-    Unknown,
+    Pair(Pairing),
 }
 
-// A question that was read, and the number of the sign behind it.
+// The signs that are left to read, and how many were read. One that is of no kind is nothing.
+#[derive(Drop)]
+struct Signs<'a> {
+    heap: Global,
+    lists: &'a [List],
+    place: u64,
+    rest: &'a [Option<Sign>],
+    ghost counted: { place + length rest.now < 2 ^ 64 },
+}
+
+// A question that was read, and how large its answer is.
 #[derive(Drop)]
 struct Part {
     question: Question,
     size: Size,
-    next: u64,
 }
 
 // A question of a file, and the rows asked about.
@@ -68,271 +85,204 @@ pub struct Asked {
     pub size: Size,
     // The numbers that stand in its signs.
     pub numbers: Vec<u64>,
-    pub rows: Vec<Vec<u64>>,
+    pub rows: Vec<Row>,
+}
+
+impl Test {
+    // Whether its columns stand in a row so wide.
+    fn fits(self, width: u64) -> bool {
+        match self {
+            Test::Same(a, b) | Test::Differ(a, b) => a < width && b < width,
+            Test::Is(a, _) | Test::IsNot(a, _) => a < width,
+        }
+    }
 }
 
 impl Size {
-    // That a question is not too large.
-    pub fn check(&self) -> Result<(), Refusal> {
-        if self.lines > MOST_LINES {
-            return Err(Refusal::TooLarge(MOST_LINES + 1));
-        }
-        if self.cost > MOST_COST {
-            return Err(Refusal::TooLarge(MOST_COST + 1));
-        }
-        if self.cost > OWN_COST {
-            return Err(Refusal::TooLarge(OWN_COST + 1));
-        }
-        Ok(())
-    }
-}
-
-// The next question and its rows; or the sign that can't be read, or the row that is cut short.
-pub fn read_asked(heap: Global, input: &mut Input, lists: &[List]) -> Result<Asked, Refusal> {
-    let Some(count) = input.byte() else {
-        return Err(Refusal::BadSign(0));
-    };
-    let signs = read_signs(heap, input, u64::from(count))?;
-    let part = read(heap, lists, signs.as_slice(), 0, MOST_SIGNS + 1)?;
-    if part.next != u64::from(count) {
-        return Err(Refusal::BadSign(part.next));
-    }
-    let numbers = numbers_in(heap, signs.as_slice())?;
-    let rows = read_rows(heap, input, part.size.width)?;
-    Ok(Asked {
-        question: part.question,
-        size: part.size,
-        numbers,
-        rows,
-    })
-}
-
-// The numbers that signs compare with.
-fn numbers_in(heap: Global, signs: &[Sign]) -> Result<Vec<u64>, AllocError> {
-    let mut numbers = Vec::new(heap);
-    for sign in signs {
-        match *sign {
-            Sign::Keep(Test::Is(_, n)) | Sign::Keep(Test::IsNot(_, n)) => numbers.push(n)?,
-            _ => {}
-        }
-    }
-    Ok(numbers)
-}
-
-// The signs that are there, sixteen at most.
-fn read_signs(heap: Global, input: &mut Input, count: u64) -> Result<Vec<Sign>, AllocError> {
-    let mut signs = Vec::new(heap);
-    for i in 0..count {
-        let Some(sign) = read_sign(input) else {
-            return Ok(signs);
-        };
-        if i < MOST_SIGNS {
-            signs.push(sign)?;
-        }
-    }
-    Ok(signs)
-}
-
-fn read_sign(input: &mut Input) -> Option<Sign> {
-    let kind = input.number()?;
-    let a = input.number()?;
-    let b = input.number()?;
-    let c = input.number()?;
-    let d = input.number()?;
-    let e = input.number()?;
-    Some(match kind {
-        0 => Sign::Rows(a),
-        1 => Sign::Keep(Test::Same(a, b)),
-        2 => Sign::Keep(Test::Differ(a, b)),
-        3 => Sign::Keep(Test::Is(a, b)),
-        4 => Sign::Keep(Test::IsNot(a, b)),
-        5 => Sign::Columns(a, [b, c, d, e]),
-        6 => Sign::Join,
-        7 => Sign::Union,
-        8 => Sign::Without,
-        _ => Sign::Unknown,
-    })
-}
-
-// The rows asked about, behind the byte that says how many; none where that is missing.
-fn read_rows(heap: Global, input: &mut Input, width: u64) -> Result<Vec<Vec<u64>>, Refusal> {
-    let count = input.byte().unwrap_or(0);
-    let mut rows = Vec::new(heap);
-    for _ in 0..count {
-        rows.push(read_row(heap, input, width)?)?;
-    }
-    Ok(rows)
-}
-
-fn read_row(heap: Global, input: &mut Input, width: u64) -> Result<Vec<u64>, Refusal> {
-    let mut row = Vec::new(heap);
-    for i in 0..width {
-        let Some(number) = input.number() else {
-            return Err(Refusal::CutRow(i));
-        };
-        row.push(number)?;
-    }
-    Ok(row)
-}
-
-// The question that begins at a sign, at most `left` signs deep.
-fn read(heap: Global, lists: &[List], signs: &[Sign], at: u64, left: u64) -> Result<Part, Refusal> {
-    let bad = Refusal::BadSign(at);
-    let next = at.saturating_add(1);
-    let Some(sign) = signs.get(at as usize) else {
-        return Err(bad);
-    };
-    if left == 0 {
-        return Err(bad);
-    }
-    match *sign {
-        Sign::Rows(t) => rows_of(lists, t, next, bad),
-        Sign::Keep(test) => {
-            let part = read(heap, lists, signs, next, left - 1)?;
-            keep(heap, test, part, bad)
-        }
-        Sign::Columns(count, columns) => {
-            let part = read(heap, lists, signs, next, left - 1)?;
-            cut(heap, count, columns, part, bad)
-        }
-        Sign::Join => {
-            let first = read(heap, lists, signs, next, left - 1)?;
-            let second = read(heap, lists, signs, first.next, left - 1)?;
-            join(heap, first, second, bad)
-        }
-        Sign::Union => {
-            let first = read(heap, lists, signs, next, left - 1)?;
-            let second = read(heap, lists, signs, first.next, left - 1)?;
-            unite(heap, first, second, bad)
-        }
-        Sign::Without => {
-            let first = read(heap, lists, signs, next, left - 1)?;
-            let second = read(heap, lists, signs, first.next, left - 1)?;
-            less(heap, first, second, bad)
-        }
-        Sign::Unknown => Err(bad),
-    }
-}
-
-fn rows_of(lists: &[List], t: u64, next: u64, bad: Refusal) -> Result<Part, Refusal> {
-    let Some(list) = lists.get(t as usize) else {
-        return Err(bad);
-    };
-    Ok(Part {
-        question: Question::Rows(t),
-        size: Size {
+    // Of the rows of a list.
+    fn of(list: &List) -> Size {
+        Size {
             lines: list.lines.len() as u64,
             width: list.columns,
             cost: 0,
-        },
-        next,
-    })
-}
-
-fn keep(heap: Global, test: Test, part: Part, bad: Refusal) -> Result<Part, Refusal> {
-    let width = part.size.width;
-    let fits = match test {
-        Test::Same(a, b) => a < width && b < width,
-        Test::Differ(a, b) => a < width && b < width,
-        Test::Is(a, _) => a < width,
-        Test::IsNot(a, _) => a < width,
-    };
-    if !fits {
-        return Err(bad);
-    }
-    let lines = part.size.lines;
-    let cost = part.size.cost.saturating_add(lines.saturating_mul(3));
-    Ok(Part {
-        question: Question::Keep(test, Box::new(heap, part.question)?),
-        size: Size { lines, width, cost },
-        next: part.next,
-    })
-}
-
-fn cut(
-    heap: Global,
-    count: u64,
-    columns: [u64; 4],
-    part: Part,
-    bad: Refusal,
-) -> Result<Part, Refusal> {
-    if count < 1 || count > 4 {
-        return Err(bad);
-    }
-    let columns = Vec::from_slice(heap, &columns[0..count as usize])?;
-    for a in columns.as_slice() {
-        if *a >= part.size.width {
-            return Err(bad);
         }
     }
-    Ok(Part {
-        question: Question::Columns(columns, Box::new(heap, part.question)?),
-        size: Size {
-            lines: part.size.lines,
-            width: count,
-            cost: part.size.cost,
-        },
-        next: part.next,
-    })
+
+    // Of the rows that pass a test; nothing where it does not fit them.
+    fn kept(self, test: Test) -> Option<Size> {
+        let own = self.lines.saturating_mul(3);
+        test.fits(self.width).then_some(Size {
+            cost: self.cost.saturating_add(own),
+            ..self
+        })
+    }
+
+    // Of these columns; nothing where there are none, or one that does not stand.
+    fn cut(self, columns: &[u64]) -> Option<Size> {
+        let fits = !columns.is_empty() && columns.iter().all(|a| *a < self.width);
+        fits.then_some(Size {
+            width: columns.len() as u64,
+            ..self
+        })
+    }
+
+    // Of two answers put together; nothing where their widths don't suit.
+    fn paired(self, pairing: Pairing, other: Size) -> Option<Size> {
+        let pairs = self.lines.saturating_mul(other.lines);
+        let cost = self.cost.saturating_add(other.cost);
+        match pairing {
+            Pairing::Join => {
+                let width = self.width.saturating_add(other.width);
+                (width <= MOST_WIDTH).then_some(Size {
+                    lines: pairs,
+                    width,
+                    cost: cost.saturating_add(pairs),
+                })
+            }
+            Pairing::Union => (self.width == other.width).then_some(Size {
+                lines: self.lines.saturating_add(other.lines),
+                width: self.width,
+                cost,
+            }),
+            Pairing::Without => {
+                let own = pairs.saturating_mul(self.width.saturating_mul(2).saturating_add(3));
+                (self.width == other.width).then_some(Size {
+                    cost: cost.saturating_add(own),
+                    ..self
+                })
+            }
+        }
+    }
+
+    // That a question is not too large.
+    pub fn check(&self) -> Result<(), Refusal> {
+        below(MOST_LINES + 1, self.lines)?;
+        below(MOST_COST + 1, self.cost)?;
+        below(OWN_COST + 1, self.cost)
+    }
 }
 
-fn join(heap: Global, first: Part, second: Part, bad: Refusal) -> Result<Part, Refusal> {
-    let width = first.size.width.saturating_add(second.size.width);
-    if width > MOST_WIDTH {
-        return Err(bad);
+// That a size is below the first one that is too large.
+fn below(first: u64, size: u64) -> Result<(), Refusal> {
+    if size < first {
+        Ok(())
+    } else {
+        Err(Refusal::TooLarge(first))
     }
-    let lines = first.size.lines.saturating_mul(second.size.lines);
-    let cost = first
-        .size
-        .cost
-        .saturating_add(second.size.cost)
-        .saturating_add(lines);
-    let next = second.next;
-    let first = Box::new(heap, first.question)?;
-    let second = Box::new(heap, second.question)?;
-    Ok(Part {
-        question: Question::Join(first, second),
-        size: Size { lines, width, cost },
-        next,
-    })
 }
 
-fn unite(heap: Global, first: Part, second: Part, bad: Refusal) -> Result<Part, Refusal> {
-    let width = first.size.width;
-    if width != second.size.width {
-        return Err(bad);
+impl Sign {
+    // The sign of these six numbers, if it is of any kind.
+    fn of([kind, a, b, c, d, e]: [u64; 6]) -> Option<Sign> {
+        Some(match kind {
+            0 => Sign::Rows(a),
+            1 => Sign::Keep(Test::Same(a, b)),
+            2 => Sign::Keep(Test::Differ(a, b)),
+            3 => Sign::Keep(Test::Is(a, b)),
+            4 => Sign::Keep(Test::IsNot(a, b)),
+            5 => Sign::Columns(a, [b, c, d, e]),
+            6 => Sign::Pair(Pairing::Join),
+            7 => Sign::Pair(Pairing::Union),
+            8 => Sign::Pair(Pairing::Without),
+            _ => return None,
+        })
     }
-    let lines = first.size.lines.saturating_add(second.size.lines);
-    let cost = first.size.cost.saturating_add(second.size.cost);
-    let next = second.next;
-    let first = Box::new(heap, first.question)?;
-    let second = Box::new(heap, second.question)?;
-    Ok(Part {
-        question: Question::Union(first, second),
-        size: Size { lines, width, cost },
-        next,
-    })
+
+    // The number that it compares with.
+    fn number(self) -> Option<u64> {
+        match self {
+            Sign::Keep(Test::Is(_, n) | Test::IsNot(_, n)) => Some(n),
+            _ => None,
+        }
+    }
 }
 
-fn less(heap: Global, first: Part, second: Part, bad: Refusal) -> Result<Part, Refusal> {
-    let width = first.size.width;
-    if width != second.size.width {
-        return Err(bad);
+impl Signs<'_> {
+    fn next(&mut self) -> Option<Sign>
+        ensures at_most { length self.new.rest.now ≤ length self.old.rest.now }
+        ensures one_less { IfSome result (λ _. length self.new.rest.now < length self.old.rest.now) }
+    {
+        let sign = self.rest.split_off_first()?;
+        self.place += 1;
+        *sign
     }
-    let lines = first.size.lines;
-    let pairs = lines.saturating_mul(second.size.lines);
-    let own = pairs.saturating_mul(width.saturating_mul(2).saturating_add(3));
-    let cost = first
-        .size
-        .cost
-        .saturating_add(second.size.cost)
-        .saturating_add(own);
-    let next = second.next;
-    let first = Box::new(heap, first.question)?;
-    let second = Box::new(heap, second.question)?;
-    Ok(Part {
-        question: Question::Without(first, second),
-        size: Size { lines, width, cost },
-        next,
-    })
+
+    // The question that begins at the next sign; or the sign that can't be read.
+    fn question(&mut self) -> Result<Part, Refusal>
+        ensures { length self.new.rest.now ≤ length self.old.rest.now }
+    {
+        let heap = self.heap;
+        let bad = Refusal::BadSign(self.place);
+        let (question, size) = match self.next().ok_or(bad)? {
+            Sign::Rows(t) => {
+                let list = self.lists.get(t as usize).ok_or(bad)?;
+                (Question::Rows(t), Size::of(list))
+            }
+            Sign::Keep(test) => {
+                let Part { question, size } = self.question()?;
+                let size = size.kept(test).ok_or(bad)?;
+                (Question::Keep(test, Box::new(heap, question)?), size)
+            }
+            Sign::Columns(count, columns) => {
+                let Part { question, size } = self.question()?;
+                let columns = columns.get(..count as usize).ok_or(bad)?;
+                let size = size.cut(columns).ok_or(bad)?;
+                let columns = Vec::from_slice(heap, columns)?;
+                (Question::Columns(columns, Box::new(heap, question)?), size)
+            }
+            Sign::Pair(pairing) => {
+                let first = self.question()?;
+                let second = self.question()?;
+                let size = first.size.paired(pairing, second.size).ok_or(bad)?;
+                let first = Box::new(heap, first.question)?;
+                let second = Box::new(heap, second.question)?;
+                (Question::Pair(pairing, first, second), size)
+            }
+        };
+        Ok(Part { question, size })
+    }
+}
+
+impl Asked {
+    // A question of so many signs and its rows; or the sign that can't be read, or the row that is cut short.
+    pub fn read(
+        heap: Global,
+        input: &mut Input,
+        count: u8,
+        lists: &[List],
+    ) -> Result<Asked, Refusal> {
+        // Those that are there, sixteen at most.
+        let signs: Vec<Option<Sign>> = (0..count.min(MOST_SIGNS))
+            .map_while(|_| input.numbers().map(Sign::of))
+            .collect(heap)?;
+        let mut rest = Signs {
+            heap,
+            lists,
+            place: 0,
+            rest: &signs,
+        };
+        let Part { question, size } = rest.question()?;
+        if rest.place != u64::from(count) {
+            return Err(Refusal::BadSign(rest.place));
+        }
+        let numbers = signs
+            .iter()
+            .filter_map(|sign| sign.and_then(Sign::number))
+            .collect(heap)?;
+        let rows = (0..input.byte().unwrap_or(0))
+            .map(|_| read_row(heap, input, size.width))
+            .try_collect(heap)?;
+        Ok(Asked {
+            question,
+            size,
+            numbers,
+            rows,
+        })
+    }
+}
+
+fn read_row(heap: Global, input: &mut Input, width: u64) -> Result<Row, Refusal> {
+    (0..width)
+        .map(|i| input.number().ok_or(Refusal::CutRow(i)))
+        .try_collect(heap)
 }

@@ -1,6 +1,9 @@
 // The lists and the nodes of a file.
+ghost use Rattle.std.specs.Prelude.{◌≡◌, ◌<◌, ◌↔◌, IfOk, IfSome, IsSome, vec_len};
+ghost use Rattle.plain_trial.specs.declared.reading.TheConstants.{GAPS};
+
 use crate::telling::Refusal;
-use std::alloc::Global;
+use std::alloc::{AllocError, Global};
 
 // The most lists, and the most lines of a list.
 const MOST_LISTS: u64 = 8;
@@ -9,13 +12,20 @@ const MOST_LINES: u64 = 8;
 
 const MOST_COLUMNS: u64 = 4;
 
-// Gaps are named 0 to 63.
-const GAPS: u64 = 64;
+// How many names there are for gaps.
+pub const GAPS: usize = 64;
+
+// A gap, by its name.
+#[derive(Clone, Copy, PartialEq, Eq, PartialOrd, Ord)]
+pub struct Gap {
+    pub name: usize,
+    ghost named: { name < GAPS },
+}
 
 #[derive(Clone, Copy)]
 pub enum Cell {
     Number(u64),
-    Gap(u64),
+    Gap(Gap),
 }
 
 // A condition over two cells, or over conditions at other places.
@@ -51,7 +61,7 @@ pub struct Book {
 }
 
 // The bytes of a file that are left to read.
-#[derive(Clone, Copy)]
+#[derive(Drop)]
 pub struct Input<'a> {
     rest: &'a [u8],
 }
@@ -66,153 +76,154 @@ impl<'a> Input<'a> {
     }
 
     pub fn byte(&mut self) -> Option<u8> {
-        let rest = self.rest;
-        if rest.len() < 1 {
-            return None;
-        }
-        self.rest = &rest[1..];
-        Some(rest[0])
+        self.rest.split_off_first().copied()
     }
 
     // The number in the next four bytes, low byte first.
     pub fn number(&mut self) -> Option<u64> {
-        let rest = self.rest;
-        if rest.len() < 4 {
+        let (bytes, rest) = self.rest.split_first_chunk()?;
+        self.rest = rest;
+        Some(u64::from(u32::from_le_bytes(*bytes)))
+    }
+
+    // The next numbers, as many as the caller takes apart.
+    pub fn numbers<const N: usize>(&mut self) -> Option<[u64; N]> {
+        let mut numbers = [0; N];
+        for number in &mut numbers {
+            *number = self.number()?;
+        }
+        Some(numbers)
+    }
+}
+
+impl Gap {
+    // The gap of that name, if there is such a name.
+    pub fn named(name: u64) -> Option<Gap>
+        ensures valid { IsSome result ↔ (name < GAPS) }
+        ensures value { IfSome result (λ gap. gap.name ≡ name) }
+    {
+        let name = name as usize;
+        if name < GAPS {
+            Some(Gap { name })
+        } else {
+            None
+        }
+    }
+}
+
+impl Cell {
+    // A tag and a number or a gap, whose tag is any but 0.
+    fn tagged(tag: u64, n: u64) -> Option<Cell> {
+        match tag {
+            0 => Some(Cell::Number(n)),
+            _ => Gap::named(n).map(Cell::Gap),
+        }
+    }
+
+    // A cell of a list, where a gap's tag is 1.
+    fn read(input: &mut Input) -> Option<Cell> {
+        let [tag, n] = input.numbers::<2>()?;
+        if tag > 1 {
             return None;
         }
-        self.rest = &rest[4..];
-        let number = u32::from_le_bytes([rest[0], rest[1], rest[2], rest[3]]);
-        Some(u64::from(number))
+        Cell::tagged(tag, n)
     }
 }
 
-// Everything before the questions; or the first fault: of a list, of the nodes, of a node that is named.
-pub fn read_book(heap: Global, input: &mut Input) -> Result<Book, Refusal> {
-    let Some(count) = input.byte() else {
-        return Err(Refusal::BadList(0));
-    };
-    let (Some(many), Some(known)) = (input.number(), input.number()) else {
-        return Err(Refusal::BadList(0));
-    };
-    if many < 1 {
-        return Err(Refusal::BadList(0));
+impl Node {
+    fn read(input: &mut Input) -> Option<Node> {
+        let [kind, a, b, c, d] = input.numbers::<5>()?;
+        Some(match kind {
+            0 => Node::Always,
+            1 => Node::Never,
+            // Never where a gap has no name.
+            2 => Cell::tagged(a, b)
+                .zip(Cell::tagged(c, d))
+                .map_or(Node::Never, |(first, second)| Node::Equal(first, second)),
+            3 => Node::Not(a),
+            4 => Node::Both(a, b),
+            _ => Node::Either(a, b),
+        })
     }
-    if many > MOST_LISTS {
-        return Err(Refusal::BadList(MOST_LISTS));
-    }
-    let mut lists = Vec::new(heap);
-    for i in 0..many {
-        lists.push(read_list(heap, input, Refusal::BadList(i))?)?;
-    }
-    let nodes = read_nodes(heap, input, u64::from(count))?;
-    let book = Book {
-        known,
-        lists,
-        nodes,
-    };
-    check_nodes(&book)?;
-    Ok(book)
 }
 
-fn read_list(heap: Global, input: &mut Input, bad: Refusal) -> Result<List, Refusal> {
-    let (Some(many), Some(columns)) = (input.number(), input.number()) else {
-        return Err(bad);
-    };
-    if many > MOST_LINES || columns < 1 || columns > MOST_COLUMNS {
-        return Err(bad);
+impl Line {
+    fn read(heap: Global, input: &mut Input, columns: u64, bad: Refusal) -> Result<Line, Refusal> {
+        let node = input.number().ok_or(bad)?;
+        let cells = (0..columns)
+            .map(|_| Cell::read(input).ok_or(bad))
+            .try_collect(heap)?;
+        Ok(Line { node, cells })
     }
-    let mut lines = Vec::new(heap);
-    for _ in 0..many {
-        lines.push(read_line(heap, input, columns, bad)?)?;
-    }
-    Ok(List { columns, lines })
 }
 
-fn read_line(heap: Global, input: &mut Input, columns: u64, bad: Refusal) -> Result<Line, Refusal> {
-    let Some(node) = input.number() else {
-        return Err(bad);
-    };
-    let mut cells = Vec::new(heap);
-    for _ in 0..columns {
-        let Some(cell) = read_cell(input) else {
+impl List {
+    fn read(heap: Global, input: &mut Input, bad: Refusal) -> Result<List, Refusal> {
+        let [many, columns] = input.numbers::<2>().ok_or(bad)?;
+        if many > MOST_LINES || columns < 1 || columns > MOST_COLUMNS {
             return Err(bad);
-        };
-        cells.push(cell)?;
-    }
-    Ok(Line { node, cells })
-}
-
-// A cell of a list; nothing where none stands there.
-fn read_cell(input: &mut Input) -> Option<Cell> {
-    match (input.number()?, input.number()?) {
-        (0, number) => Some(Cell::Number(number)),
-        (1, gap) if gap < GAPS => Some(Cell::Gap(gap)),
-        _ => None,
-    }
-}
-
-fn read_nodes(heap: Global, input: &mut Input, count: u64) -> Result<Vec<Node>, Refusal> {
-    let mut nodes = Vec::new(heap);
-    for _ in 0..count {
-        let Some(node) = read_node(input) else {
-            return Err(Refusal::CutNodes(count));
-        };
-        nodes.push(node)?;
-    }
-    Ok(nodes)
-}
-
-fn read_node(input: &mut Input) -> Option<Node> {
-    let kind = input.number()?;
-    let a = input.number()?;
-    let b = input.number()?;
-    let c = input.number()?;
-    let d = input.number()?;
-    Some(match kind {
-        0 => Node::Always,
-        1 => Node::Never,
-        2 => equal(a, b, c, d),
-        3 => Node::Not(a),
-        4 => Node::Both(a, b),
-        _ => Node::Either(a, b),
-    })
-}
-
-// The comparison of two cells, each a tag and a number or a gap; never where a gap has no name.
-fn equal(a: u64, b: u64, c: u64, d: u64) -> Node {
-    if a > 0 && b >= GAPS || c > 0 && d >= GAPS {
-        return Node::Never;
-    }
-    Node::Equal(cell_of(a, b), cell_of(c, d))
-}
-
-fn cell_of(tag: u64, n: u64) -> Cell {
-    if tag == 0 {
-        Cell::Number(n)
-    } else {
-        Cell::Gap(n)
-    }
-}
-
-// That every node that is named stands.
-fn check_nodes(book: &Book) -> Result<(), Refusal> {
-    let count = book.nodes.len() as u64;
-    for (i, list) in book.lists.as_slice().iter().enumerate() {
-        if !all_stand(list, count) {
-            return Err(Refusal::NoSuchNode(i as u64));
         }
+        let lines = (0..many)
+            .map(|_| Line::read(heap, input, columns, bad))
+            .try_collect(heap)?;
+        Ok(List { columns, lines })
     }
-    if book.known >= count {
-        return Err(Refusal::NoSuchNode(MOST_LISTS));
-    }
-    Ok(())
 }
 
-fn all_stand(list: &List, count: u64) -> bool {
-    for line in list.lines.as_slice() {
-        if line.node >= count {
-            return false;
+impl Book {
+    // Everything before the questions; or the first fault: of a list, of the nodes, of a node that is named.
+    pub fn read(heap: Global, input: &mut Input) -> Result<Book, Refusal> {
+        let bad = Refusal::BadList(0);
+        let count = u64::from(input.byte().ok_or(bad)?);
+        let [many, known] = input.numbers::<2>().ok_or(bad)?;
+        if many < 1 {
+            return Err(bad);
         }
+        if many > MOST_LISTS {
+            return Err(Refusal::BadList(MOST_LISTS));
+        }
+        let lists = (0..many)
+            .map(|i| List::read(heap, input, Refusal::BadList(i)))
+            .try_collect(heap)?;
+        let nodes = (0..count)
+            .map(|_| Node::read(input).ok_or(Refusal::CutNodes(count)))
+            .try_collect(heap)?;
+        let book = Book {
+            known,
+            lists,
+            nodes,
+        };
+        book.check()?;
+        Ok(book)
     }
-    true
+
+    // That every node that is named stands.
+    fn check(&self) -> Result<(), Refusal> {
+        let count = self.nodes.len() as u64;
+        let misnames = |list: &List| list.lines.iter().any(|line| line.node >= count);
+        if let Some(list) = self.lists.iter().position(misnames) {
+            return Err(Refusal::NoSuchNode(list as u64));
+        }
+        if self.known >= count {
+            return Err(Refusal::NoSuchNode(MOST_LISTS));
+        }
+        Ok(())
+    }
+
+    // What each node comes to, worked out from what the nodes before it come to.
+    pub fn each_node<T: Drop, F: Fn(Node, &[T]) -> Result<T, AllocError>>(
+        &self,
+        heap: Global,
+        of: F,
+    ) -> Result<Vec<T>, AllocError>
+        requires { F.IsAlwaysCallable of }
+        ensures { IfOk result (λ each. vec_len each ≡ vec_len self.now.nodes) }
+    {
+        let mut earlier = Vec::new(heap);
+        for node in &self.nodes {
+            let worth = of(*node, &earlier)?;
+            earlier.push(worth)?;
+        }
+        Ok(earlier)
+    }
 }

@@ -1,119 +1,117 @@
-// A question asked of plain rows.
-use crate::questions::{Question, Test};
+// A question asked of lists, whether of rows or of lines whose names are followed.
+use crate::questions::{Pairing, Question, Test};
 use std::alloc::{AllocError, Global};
 
+pub type Row = Vec<u64>;
+
+// What stands in the lists that a question is asked of, and what each kind of question makes of it.
+pub trait Entry: Clone + Drop {
+    // What a test makes of it; nothing where it is not kept.
+    fn tested(self, test: Test) -> Result<Option<Self>, AllocError>;
+
+    // Its cells in these columns.
+    fn cut(self, heap: Global, columns: &[u64]) -> Result<Self, AllocError>;
+
+    // Its cells, and behind them the other's.
+    fn beside(&self, other: &Self) -> Result<Self, AllocError>;
+
+    // What is left of it without these others; nothing where it is one of them.
+    fn without(self, others: &[Self]) -> Result<Option<Self>, AllocError>;
+}
+
 impl Question {
-    // The rows that it gives on these lists.
-    pub fn ask(&self, heap: Global, lists: &[Vec<Vec<u64>>]) -> Result<Vec<Vec<u64>>, AllocError> {
+    // The entries that it gives on these lists.
+    pub fn ask<E: Entry>(&self, heap: Global, lists: &[Vec<E>]) -> Result<Vec<E>, AllocError> {
         match self {
-            Question::Rows(t) => copied(heap, lists, *t),
+            Question::Rows(t) => match lists.get(*t as usize) {
+                Some(entries) => entries.clone(),
+                None => Ok(Vec::new(heap)),
+            },
             Question::Keep(test, question) => {
-                let rows = question.ask(heap, lists)?;
-                kept(heap, *test, rows)
+                let entries = question.ask(heap, lists)?;
+                kept(heap, *test, entries)
             }
             Question::Columns(columns, question) => {
-                let rows = question.ask(heap, lists)?;
-                cut(heap, columns.as_slice(), rows.as_slice())
+                let entries = question.ask(heap, lists)?;
+                cut(heap, &columns, entries)
             }
-            Question::Join(first, second) => {
-                let rows = first.ask(heap, lists)?;
+            Question::Pair(pairing, first, second) => {
+                let entries = first.ask(heap, lists)?;
                 let others = second.ask(heap, lists)?;
-                joined(heap, rows.as_slice(), others.as_slice())
-            }
-            Question::Union(first, second) => {
-                let rows = first.ask(heap, lists)?;
-                let others = second.ask(heap, lists)?;
-                united(rows, others)
-            }
-            Question::Without(first, second) => {
-                let rows = first.ask(heap, lists)?;
-                let others = second.ask(heap, lists)?;
-                less(heap, rows, others.as_slice())
+                paired(heap, *pairing, entries, others)
             }
         }
     }
 }
 
-fn copied(heap: Global, lists: &[Vec<Vec<u64>>], t: u64) -> Result<Vec<Vec<u64>>, AllocError> {
-    match lists.get(t as usize) {
-        Some(rows) => rows.clone(),
-        None => Ok(Vec::new(heap)),
-    }
+fn kept<E: Entry>(heap: Global, test: Test, entries: Vec<E>) -> Result<Vec<E>, AllocError> {
+    entries
+        .into_iter()
+        .filter_map(|entry| entry.tested(test).transpose())
+        .try_collect(heap)
 }
 
-fn kept(heap: Global, test: Test, rows: Vec<Vec<u64>>) -> Result<Vec<Vec<u64>>, AllocError> {
-    let mut out = Vec::new(heap);
-    for row in rows {
-        if passes(test, row.as_slice()) {
-            out.push(row)?;
+fn cut<E: Entry>(heap: Global, columns: &[u64], entries: Vec<E>) -> Result<Vec<E>, AllocError> {
+    entries
+        .into_iter()
+        .map(|entry| entry.cut(heap, columns))
+        .try_collect(heap)
+}
+
+fn paired<E: Entry>(
+    heap: Global,
+    pairing: Pairing,
+    mut entries: Vec<E>,
+    mut others: Vec<E>,
+) -> Result<Vec<E>, AllocError> {
+    match pairing {
+        Pairing::Join => joined(heap, &entries, &others),
+        Pairing::Union => {
+            entries.append(&mut others)?;
+            Ok(entries)
         }
-    }
-    Ok(out)
-}
-
-fn passes(test: Test, row: &[u64]) -> bool {
-    match test {
-        Test::Same(a, b) => at(row, a) == at(row, b),
-        Test::Differ(a, b) => at(row, a) != at(row, b),
-        Test::Is(a, number) => at(row, a) == number,
-        Test::IsNot(a, number) => at(row, a) != number,
+        Pairing::Without => entries
+            .into_iter()
+            .filter_map(|entry| entry.without(&others).transpose())
+            .try_collect(heap),
     }
 }
 
+fn joined<E: Entry>(heap: Global, entries: &[E], others: &[E]) -> Result<Vec<E>, AllocError> {
+    entries
+        .iter()
+        .flat_map(|entry| others.iter().map(|other| entry.beside(other)))
+        .try_collect(heap)
+}
+
+impl Entry for Row {
+    fn tested(self, test: Test) -> Result<Option<Row>, AllocError> {
+        let passes = match test {
+            Test::Same(a, b) => at(&self, a) == at(&self, b),
+            Test::Differ(a, b) => at(&self, a) != at(&self, b),
+            Test::Is(a, number) => at(&self, a) == number,
+            Test::IsNot(a, number) => at(&self, a) != number,
+        };
+        Ok(passes.then_some(self))
+    }
+
+    fn cut(self, heap: Global, columns: &[u64]) -> Result<Row, AllocError> {
+        columns.iter().map(|a| at(&self, *a)).collect(heap)
+    }
+
+    fn beside(&self, other: &Row) -> Result<Row, AllocError> {
+        let mut row = self.clone()?;
+        row.extend_from_slice(&other)?;
+        Ok(row)
+    }
+
+    fn without(self, others: &[Row]) -> Result<Option<Row>, AllocError> {
+        let stays = !others.contains(&self);
+        Ok(stays.then_some(self))
+    }
+}
+
+// The number of a row in a column, 0 where it has no such column.
 fn at(row: &[u64], a: u64) -> u64 {
     row.get(a as usize).copied().unwrap_or(0)
-}
-
-fn cut(heap: Global, columns: &[u64], rows: &[Vec<u64>]) -> Result<Vec<Vec<u64>>, AllocError> {
-    let mut out = Vec::new(heap);
-    for row in rows {
-        out.push(cut_row(heap, columns, row.as_slice())?)?;
-    }
-    Ok(out)
-}
-
-fn cut_row(heap: Global, columns: &[u64], row: &[u64]) -> Result<Vec<u64>, AllocError> {
-    let mut out = Vec::new(heap);
-    for a in columns {
-        out.push(at(row, *a))?;
-    }
-    Ok(out)
-}
-
-fn joined(
-    heap: Global,
-    rows: &[Vec<u64>],
-    others: &[Vec<u64>],
-) -> Result<Vec<Vec<u64>>, AllocError> {
-    let mut out = Vec::new(heap);
-    for row in rows {
-        for other in others {
-            let mut wide = row.clone()?;
-            wide.extend_from_slice(other.as_slice())?;
-            out.push(wide)?;
-        }
-    }
-    Ok(out)
-}
-
-fn united(rows: Vec<Vec<u64>>, others: Vec<Vec<u64>>) -> Result<Vec<Vec<u64>>, AllocError> {
-    let mut out = rows;
-    for row in others {
-        out.push(row)?;
-    }
-    Ok(out)
-}
-
-fn less(
-    heap: Global,
-    rows: Vec<Vec<u64>>,
-    others: &[Vec<u64>],
-) -> Result<Vec<Vec<u64>>, AllocError> {
-    let mut out = Vec::new(heap);
-    for row in rows {
-        if !others.contains(&row) {
-            out.push(row)?;
-        }
-    }
-    Ok(out)
 }

@@ -1,7 +1,8 @@
 // What is refused, and how it is told.
 use std::alloc::{AllocError, AllocFailed};
+use std::fmt;
 
-#[derive(Clone, Copy)]
+#[derive(Clone, Copy, Debug)]
 pub enum Refusal {
     // 1: the first list at fault; 0 for no lists, 8 for more than eight.
     BadList(u64),
@@ -27,7 +28,7 @@ pub enum Refusal {
 
 impl Refusal {
     // The number and the place.
-    pub fn told(self) -> (u64, u64) {
+    fn told(self) -> (u64, u64) {
         match self {
             Refusal::BadList(list) => (1, list),
             Refusal::CutNodes(count) => (2, count),
@@ -40,6 +41,13 @@ impl Refusal {
             Refusal::NothingFits => (11, 0),
             Refusal::NoMemory => (99, 0),
         }
+    }
+}
+
+impl fmt::Display for Refusal {
+    fn fmt<W: fmt::Write>(&self, f: &mut fmt::Formatter<W>) -> fmt::Result {
+        let (number, place) = self.told();
+        write!(f, "refused {number} {place}")
     }
 }
 
