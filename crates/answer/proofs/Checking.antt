@@ -1,5 +1,5 @@
 -- What is told of a question, from what is told of its parts.
-use Rattle.std.proofs.Common.{◌≡◌, ℕ, zero, suc, ◌+◌, ◌*◌, ◌<◌, ◌≤◌, leb, List, length, Ok, Some, None, sym, refl, ap, ◌∙◌, subst, arith}
+use Rattle.std.proofs.Common.{◌≡◌, ℕ, ◌+◌, ◌*◌, ◌<◌, ◌≤◌, leb, List, length, Ok, Some, None, sym, refl, ap, ◌∙◌, subst, arith}
 use Rattle.std.proofs.lemmas.Bool.{le-leb, lt-leb, leb-true, and_parts}
 use Rattle.condition.specs.Refusals.{Told, first, unless}
 use Rattle.condition.specs.Store.{count, store_fits, store_told, room, room_told}
@@ -7,10 +7,8 @@ use Rattle.condition.proofs.Refusing.{first_none, unless_none}
 use Rattle.list.specs.Layout.{lists_told, named_told, check_told, shapes}
 use Rattle.list.specs.Shapes.{AllShaped}
 use Rattle.list.specs.declared.shapes.Shapes.{Shapes}
-use Rattle.query.specs.Parts.{sized_of, Parted}
-use Rattle.query.specs.Parts as parts
 use Rattle.query.specs.Questions.{Stands}
-use Rattle.query.specs.Reading.{Sized, Read, asked, sized, question_told, size_told}
+use Rattle.query.specs.Reading.{Sized, Read, asked, question_told, size_told}
 use Rattle.query.specs.Shapes.{part_at}
 use Rattle.query.specs.declared.Part.{Part}
 use Rattle.answer.specs.Entry.{question, answer_size, ask_told, Passed, Answered, AskLeaves, AskSays}

@@ -7,7 +7,7 @@ use Rattle.condition.proofs.Growing.{grown_self, grown_cond, grown_trans}
 use Rattle.answer.specs.declared.less.Less.{Less}
 use Rattle.answer.specs.Plan.{many, wide, less_size, rid, equals}
 use Rattle.answer.specs.Sides.{plan, node, cells}
-use Rattle.answer.specs.Laid.{Based, Stand, New, Last, Added, Ready, now_at, last_of, each, less_one, less}
+use Rattle.answer.specs.Laid.{Based, New, Last, Added, Ready, last_of, each, less_one, less}
 
 pub rid_same : (m w : ℕ) (f : ℕ → Cell) (d e : ℕ → Cond) (g : ℕ → ℕ → Cell) (a b : Cond) → ((j : ℕ) → j < m → d j ≡ e j) → a ≡ b → rid m w f d g a ≡ rid m w f e g b
 unfolding rid

@@ -37,12 +37,12 @@ pub record Under (s p : Side) (b : ℕ) : Type 0 where
   pub fewer : p.left < s.left
   pub base : p.base ≡ b
 
--- s is made of p alone
+-- the plan of s is up, over p alone
 pub record One (s : Side) (up : Plan) (p : Side) : Type 0 where
   pub is : plan s ≡ up
   pub first : Under s p s.base
 
--- s is made of p and of q, whose nodes stand behind those of p
+-- the plan of s is up, over p and over q, whose nodes stand behind those of p
 pub record Two (s : Side) (up : Plan) (p q : Side) : Type 0 where
   pub is : plan s ≡ up
   pub first : Under s p s.base

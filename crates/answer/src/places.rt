@@ -3,6 +3,7 @@ ghost use Rattle.std.specs.Prelude.{◌≡◌, ◌+◌, ◌-◌, ◌*◌, ◌<�
 ghost use Rattle.condition.specs.Shapes.{cell_of};
 ghost use Rattle.answer.specs.Plan.{many, wide, size};
 ghost use Rattle.answer.specs.Sides.{plan, node, cells};
+ghost use Rattle.answer.specs.Laid.{last_of};
 
 use crate::side::Side;
 use crate::split::Split;
@@ -44,7 +45,7 @@ impl Side<'_> {
         requires line { i < many (plan self.now) }
         requires some { 1 ≤ s }
         requires room { many (plan self.now) * s ≤ size (plan self.now) }
-        ensures { result ≡ self.now.base + size (plan self.now) - many (plan self.now) * s + i * s + s - 1 }
+        ensures { result ≡ last_of (self.now.base + size (plan self.now) - many (plan self.now) * s) s i }
     {
         self.end() - self.lines() * s + i * s + s - 1
     }

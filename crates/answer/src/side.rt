@@ -22,7 +22,8 @@ pub(crate) struct Side<'a> {
     pub(crate) parts: &'a [Part],
     pub(crate) left: u64,
     pub(crate) base: u64,
-    // Its plan fits the lists, and its parts say what the plan's numbers are.
+    // The parts say what the numbers of its plan are, and the plan fits the lists.
     pub(crate) ghost sound: { Sound left asked.shapes.now parts.now asked.lists.now asked.first } by { Sound-prop left asked.shapes.now parts.now asked.lists.now asked.first },
+    // Its nodes end at a place that is far from the greatest number.
     pub(crate) ghost low: { base + size (plan_of left asked.shapes.now parts.now) ≤ 1000000 },
 }

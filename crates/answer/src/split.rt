@@ -19,7 +19,7 @@ pub(crate) enum Split<'a> {
 }
 
 impl<'a> Side<'a> {
-    // Its sign, with the questions below it. Inlined, so that only those that are looked at are made: asking is twice as fast.
+    // Its sign, with the questions below it. Inlined, so that only what is looked at is made: asking takes half the time or less.
     #[inline(always)]
     pub(crate) fn split(&self) -> Split<'a>
         ensures { Splits self.now result }

@@ -8,7 +8,6 @@ ghost use Rattle.answer.specs.Sides.{plan, node, cells};
 ghost use Rattle.answer.specs.Written.{Put, Written};
 
 use crate::side::Side;
-use condition::Cell;
 
 impl Side<'_> {
     // Writes the lines of a question whose nodes are laid.
@@ -31,17 +30,7 @@ impl Side<'_> {
         out[at] = self.place(i);
         for a in 0..self.width() {
             let at = at + 1 + 2 * a;
-            out[at..at + 2].copy_from_slice(&numbers(self.cell(i, a)));
+            out[at..at + 2].copy_from_slice(&<[u64; 2]>::from(self.cell(i, a)));
         }
-    }
-}
-
-// A cell as two numbers.
-fn numbers(cell: Cell) -> [u64; 2]
-    ensures { cell_in (slice_index result 0) (slice_index result 1) ≡ cell_of cell }
-{
-    match cell {
-        Cell::Number(n) => [0, n],
-        Cell::Gap(name) => [1, name],
     }
 }

@@ -2,6 +2,7 @@
 --
 --   node_from k a b c d      the node that five numbers are read as
 --   decoded nodes i          the node that the five numbers at place i of a store are read as
+--   two c                    the two numbers that are written for the cell c
 --   five n                   the five numbers that are written for the node n
 --   Added xs ys n i          ys is the store xs with the node n added, at place i
 --   behind n i               whether all places that the node n names lie before i
@@ -44,6 +45,9 @@ tag (Gap k) = 1
 abbrev pub name : Cell → ℕ
 name (Number n) = n
 name (Gap k) = k
+
+abbrev pub two : Cell → List ℕ
+two c = tag c ∷ (name c ∷ [])
 
 abbrev pub five : Node → List ℕ
 five Always = 0 ∷ (0 ∷ (0 ∷ (0 ∷ (0 ∷ []))))

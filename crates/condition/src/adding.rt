@@ -2,7 +2,7 @@
 ghost use Rattle.std.specs.Prelude.{◌≡◌, ℕ, ◌+◌, ◌*◌, ◌<◌, ◌≤◌, true, length, IfOk, OnErr, OnOk, slice_index};
 ghost use Rattle.condition.specs.Store.{count, store_fits, store_told, room_told, cond_at, Grown};
 ghost use Rattle.condition.specs.Shapes.{node_of};
-ghost use Rattle.condition.specs.Nodes.{five, Added};
+ghost use Rattle.condition.specs.Nodes.{two, five, Added};
 ghost use Rattle.condition.specs.Refusals.{outcome, first};
 
 use crate::store::room;
@@ -47,6 +47,18 @@ fn write(front: &mut [u64], node: Node)
     front[..5].copy_from_slice(&<[u64; 5]>::from(node));
 }
 
+// A cell as two numbers.
+impl From<Cell> for [u64; 2] {
+    ghost from_gives = { λ c r. r ≡ two c };
+
+    fn from(cell: Cell) -> [u64; 2] {
+        match cell {
+            Cell::Number(n) => [0, n],
+            Cell::Gap(name) => [1, name],
+        }
+    }
+}
+
 // A node as five numbers.
 impl From<Node> for [u64; 5] {
     ghost from_gives = { λ n r. r ≡ five n };
@@ -55,10 +67,11 @@ impl From<Node> for [u64; 5] {
         match node {
             Node::Always => [0, 0, 0, 0, 0],
             Node::Never => [1, 0, 0, 0, 0],
-            Node::Equal(Cell::Number(a), Cell::Number(b)) => [2, 0, a, 0, b],
-            Node::Equal(Cell::Number(a), Cell::Gap(b)) => [2, 0, a, 1, b],
-            Node::Equal(Cell::Gap(a), Cell::Number(b)) => [2, 1, a, 0, b],
-            Node::Equal(Cell::Gap(a), Cell::Gap(b)) => [2, 1, a, 1, b],
+            Node::Equal(a, b) => {
+                let a = <[u64; 2]>::from(a);
+                let b = <[u64; 2]>::from(b);
+                [2, a[0], a[1], b[0], b[1]]
+            }
             Node::Not(a) => [3, a, 0, 0, 0],
             Node::Both(a, b) => [4, a, b, 0, 0],
             Node::Either(a, b) => [5, a, b, 0, 0],

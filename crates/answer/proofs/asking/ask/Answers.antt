@@ -1,6 +1,5 @@
 use Rattle.std.proofs.Common.{◌∙◌}
-use Rattle.list.specs.Layout.{shapes, known_in, all_in}
-use Rattle.query.specs.Reading.{asked}
+use Rattle.list.specs.Layout.{known_in, all_in}
 use Rattle.answer.specs.Entry.{question}
 use Rattle.answer.proofs.Right.{answer_right}
 use Rattle.answer.proofs.Checking.{passed, says_ok}

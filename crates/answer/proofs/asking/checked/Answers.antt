@@ -8,11 +8,6 @@ pub returns-in_err-question : goal.returns-in_err-question
 returns-in_err-question c =
     let h = told_asking c.args.lists.now c.args.signs.now c.args.nodes.now c.args.out.now c.in_ok-check.ensures.refusal _ (rw (pairs_all c.args.lists.now c.of.result c.of.ensures) at c.in_err-question.ensures.refusal) in search rules
 
-pub overflow_add-cost : goal.overflow_add-cost
-overflow_add-cost c =
-    let st = rw (pairs_all c.args.lists.now c.of.result c.of.ensures) at c.in_ok-question.ensures.value in
-    omega (arith, c.cost.ensures, st.first.cost, st.cost)
-
 pub returns-then-room-cost : goal.returns-then-room-cost
 returns-then-room-cost c =
     let st = rw (pairs_all c.args.lists.now c.of.result c.of.ensures) at c.in_ok-question.ensures.value in

@@ -1,7 +1,7 @@
-use Rattle.std.proofs.Common.{◌≡◌, ◌+◌, ◌*◌, ◌<◌, arith}
+use Rattle.std.proofs.Common.{◌+◌, ◌*◌, ◌<◌, arith}
 use Rattle.answer.specs.Plan.{many, wide}
 use Rattle.answer.specs.Sides.{plan}
-use Rattle.answer.proofs.Steps.{less_none, less_more, less_all, ready_grown, row}
+use Rattle.answer.proofs.Steps.{less_none, less_more, ready_grown, row}
 use Rattle.answer.proofs.less.Less.lay_line.Goals as goal
 
 pub loop-j-init : goal.loop-j-init
@@ -25,6 +25,3 @@ loop-j-preserved c = (
       (c.requires.ready.second c.loop-j.j (omega arith)) c.loop-j.invariant.0 c.spare-c.ensures.new,
   λ z. c.spare-c.ensures.last,
 )
-
-pub returns : goal.returns
-returns c = less_all c.args.self.now c.args.i c.loop-j.j c.loop-j.c c.args.nodes.now c.loop-j.nodes (omega arith) c.loop-j.invariant.0 (c.loop-j.invariant.1 (omega (arith, c.args.self.now.some)))

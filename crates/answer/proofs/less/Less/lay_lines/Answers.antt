@@ -1,4 +1,4 @@
-use Rattle.std.proofs.Common.{◌≡◌, ◌<◌, arith}
+use Rattle.std.proofs.Common.{◌<◌, arith}
 use Rattle.answer.specs.Plan.{many}
 use Rattle.answer.specs.Sides.{plan}
 use Rattle.answer.specs.Laid.{each}
@@ -14,8 +14,3 @@ lay_line-requires c =
 
 pub loop-i-preserved : goal.loop-i-preserved
 loop-i-preserved c = added_more c.loop-i.invariant c.lay_line.ensures (less_same c.args.self.now c.loop-i.i c.args.nodes.now c.loop-i.nodes c.loop-i.invariant.grown c.requires.ready (omega arith))
-
-pub returns : goal.returns
-returns c =
-    let e : c.loop-i.i ≡ many (plan c.args.self.now.p) = omega arith in
-    rw e at c.loop-i.invariant
