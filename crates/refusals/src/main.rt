@@ -72,6 +72,80 @@ const FILE: [u8; 48] = [
 // The list of 64 lines joined with itself: 4,096 lines, which cost as much.
 const SQUARE: [u64; 18] = [6, 0, 0, 0, 0, 0, 0, 0, 0, 0, 0, 0, 0, 0, 0, 0, 0, 0];
 
+// Cases of lists.
+const SOME_LISTS: [(&str, &[u64]); 15] = [
+    ("lists", &LISTS),
+    ("no numbers", &[]),
+    ("no lists", &[0, 0]),
+    ("nine lists", &[9, 0]),
+    ("very many lists", &[MOST, 0]),
+    ("very many lines", &[1, 0, MOST, 1, 0, 0, 1]),
+    ("very many columns", &[1, 0, 1, MOST, 0, 0, 1]),
+    ("65 lines", &[1, 0, 65, 1, 0, 0, 1]),
+    ("no columns", &[1, 0, 1, 0, 0, 0, 1]),
+    ("five columns", &[1, 0, 0, 5]),
+    ("no lines", &[1, 0, 0, 4]),
+    ("gap 63", &[1, 0, 1, 1, 0, 1, 63]),
+    ("gap 64", &[1, 0, 1, 1, 0, 1, 64]),
+    ("tag 2", &[1, 0, 1, 1, 0, 2, 0]),
+    ("the second list at fault", &[2, 0, 0, 1, 1, 1, 0, 2, 0]),
+];
+
+// Cases of questions on the baptisms and marriages.
+const QUESTIONS: [(&str, &[u64]); 8] = [
+    ("question", &MOTHERS),
+    ("no signs", &[]),
+    ("kind 9", &[9, 0, 0, 0, 0, 0]),
+    ("a very high kind", &[MOST, 0, 0, 0, 0, 0]),
+    ("list 2", &[0, 2, 0, 0, 0, 0]),
+    ("a very high list", &[0, MOST, 0, 0, 0, 0]),
+    ("a surplus sign", &[0, 0, 0, 0, 0, 0, 0, 0, 0, 0, 0, 0]),
+    ("a surplus number", &[0, 0, 0, 0, 0, 0, 0]),
+];
+
+// Cases of their columns and widths.
+const COLUMNS: [(&str, &[u64]); 5] = [
+    ("column 2 of two", &[3, 2, 7, 0, 0, 0, 0, 0, 0, 0, 0, 0]),
+    ("no columns", &[5, 0, 0, 0, 0, 0, 0, 0, 0, 0, 0, 0]),
+    (
+        "very many columns",
+        &[5, MOST, 0, 0, 0, 0, 0, 0, 0, 0, 0, 0],
+    ),
+    (
+        "a bad list under a bad column",
+        &[5, 1, 9, 0, 0, 0, 0, 9, 0, 0, 0, 0],
+    ),
+    (
+        "lists of other widths",
+        &[
+            7, 0, 0, 0, 0, 0, 0, 0, 0, 0, 0, 0, 5, 1, 0, 0, 0, 0, 0, 1, 0, 0, 0, 0,
+        ],
+    ),
+];
+
+// Cases of a file: its lists, and the lines and columns of the first.
+const FILES: [(&str, u8, u8, u8); 9] = [
+    ("file: as it is", 2, 1, 1),
+    ("file: no lists", 0, 1, 1),
+    ("file: eight lists", 8, 1, 1),
+    ("file: nine lists", 9, 1, 1),
+    ("file: no lines, four columns", 1, 0, 4),
+    ("file: two lines", 1, 2, 1),
+    ("file: three lines", 1, 3, 1),
+    ("file: no columns", 1, 1, 0),
+    ("file: five columns", 1, 0, 5),
+];
+
+// Cases of asking for the square: how many nodes stand, how many the slice has room for, and the numbers of the answer's slice.
+const BOUNDS: [(&str, u64, usize, usize); 6] = [
+    ("4,096 lines", 1, 4099, 20480),
+    ("an answer too short by one", 1, 4099, 20479),
+    ("a store too short by one", 1, 4098, 20480),
+    ("a longer store and answer", 1, 5000, 20490),
+    ("just below 131,072 nodes", 126974, 131080, 20480),
+    ("one more stands", 126975, 131080, 20480),
+];
+
 fn main(rt: HostRuntime) -> anyhow::Result<()> {
     run(&rt)
 }
@@ -119,33 +193,10 @@ fn tell_cut<F: Fn(usize) -> Option<Refusal>>(
 }
 
 fn lists(rt: &HostRuntime) -> io::Result<()> {
-    tell(rt, "lists", check_lists(&LISTS))?;
-    tell(rt, "no numbers", check_lists(&[]))?;
-    tell(rt, "no lists", check_lists(&[0, 0]))?;
-    tell(rt, "nine lists", check_lists(&[9, 0]))?;
-    tell(rt, "very many lists", check_lists(&[MOST, 0]))?;
-    tell(
-        rt,
-        "very many lines",
-        check_lists(&[1, 0, MOST, 1, 0, 0, 1]),
-    )?;
-    tell(
-        rt,
-        "very many columns",
-        check_lists(&[1, 0, 1, MOST, 0, 0, 1]),
-    )?;
-    tell(rt, "65 lines", check_lists(&[1, 0, 65, 1, 0, 0, 1]))?;
-    tell(rt, "no columns", check_lists(&[1, 0, 1, 0, 0, 0, 1]))?;
-    tell(rt, "five columns", check_lists(&[1, 0, 0, 5]))?;
-    tell(rt, "no lines", check_lists(&[1, 0, 0, 4]))?;
-    tell(rt, "gap 63", check_lists(&[1, 0, 1, 1, 0, 1, 63]))?;
-    tell(rt, "gap 64", check_lists(&[1, 0, 1, 1, 0, 1, 64]))?;
-    tell(rt, "tag 2", check_lists(&[1, 0, 1, 1, 0, 2, 0]))?;
-    tell(
-        rt,
-        "the second list at fault",
-        check_lists(&[2, 0, 0, 1, 1, 1, 0, 2, 0]),
-    )
+    for (case, lists) in SOME_LISTS {
+        tell(rt, case, check_lists(lists))?;
+    }
+    Ok(())
 }
 
 // At most the first n of some numbers.
@@ -265,15 +316,9 @@ fn file(
 
 // Files at the bounds: their lists and their nodes.
 fn file_bounds(rt: &HostRuntime, heap: Global) -> io::Result<()> {
-    file(rt, heap, "file: as it is", 2, 1, 1)?;
-    file(rt, heap, "file: no lists", 0, 1, 1)?;
-    file(rt, heap, "file: eight lists", 8, 1, 1)?;
-    file(rt, heap, "file: nine lists", 9, 1, 1)?;
-    file(rt, heap, "file: no lines, four columns", 1, 0, 4)?;
-    file(rt, heap, "file: two lines", 1, 2, 1)?;
-    file(rt, heap, "file: three lines", 1, 3, 1)?;
-    file(rt, heap, "file: no columns", 1, 1, 0)?;
-    file(rt, heap, "file: five columns", 1, 0, 5)?;
+    for (case, count, lines, columns) in FILES {
+        file(rt, heap, case, count, lines, columns)?;
+    }
     for count in 2..4u64 {
         let mut input = Input::new(&FILE);
         match read_nodes(heap, &mut input, count) {
@@ -311,40 +356,19 @@ fn lines(lists: &[u64], signs: &[u64]) -> Result<u64, Refusal> {
     Ok(Question::read(lists, signs)?.lines())
 }
 
-// What is told of a question's signs on the baptisms and marriages.
-fn question(rt: &HostRuntime, case: &str, signs: &[u64]) -> io::Result<()> {
-    tell(rt, case, lines(&LISTS, signs))
-}
-
+// Questions of every kind on the baptisms and marriages.
 fn questions(rt: &HostRuntime) -> io::Result<()> {
-    question(rt, "question", &MOTHERS)?;
-    question(rt, "no signs", &[])?;
-    question(rt, "kind 9", &[9, 0, 0, 0, 0, 0])?;
-    question(rt, "a very high kind", &[MOST, 0, 0, 0, 0, 0])?;
-    question(rt, "list 2", &[0, 2, 0, 0, 0, 0])?;
-    question(rt, "a very high list", &[0, MOST, 0, 0, 0, 0])?;
-    question(rt, "a surplus sign", &[0, 0, 0, 0, 0, 0, 0, 0, 0, 0, 0, 0])?;
-    question(rt, "a surplus number", &[0, 0, 0, 0, 0, 0, 0])?;
+    for (case, signs) in QUESTIONS {
+        tell(rt, case, lines(&LISTS, signs))?;
+    }
     tell(rt, "of no lists", lines(&[], &MOTHERS))
 }
 
 fn columns(rt: &HostRuntime) -> io::Result<()> {
-    question(rt, "column 2 of two", &[3, 2, 7, 0, 0, 0, 0, 0, 0, 0, 0, 0])?;
-    question(rt, "no columns", &[5, 0, 0, 0, 0, 0, 0, 0, 0, 0, 0, 0])?;
-    question(
-        rt,
-        "very many columns",
-        &[5, MOST, 0, 0, 0, 0, 0, 0, 0, 0, 0, 0],
-    )?;
-    question(
-        rt,
-        "a bad list under a bad column",
-        &[5, 1, 9, 0, 0, 0, 0, 9, 0, 0, 0, 0],
-    )?;
-    let unequal = [
-        7, 0, 0, 0, 0, 0, 0, 0, 0, 0, 0, 0, 5, 1, 0, 0, 0, 0, 0, 1, 0, 0, 0, 0,
-    ];
-    question(rt, "lists of other widths", &unequal)
+    for (case, signs) in COLUMNS {
+        tell(rt, case, lines(&LISTS, signs))?;
+    }
+    Ok(())
 }
 
 // A question cut at every length.
@@ -436,44 +460,9 @@ fn unwritten(numbers: &[u64]) -> u64 {
 
 // Asking at its bounds, and one past them.
 fn bounds(rt: &HostRuntime, heap: Global) -> anyhow::Result<()> {
-    bound(rt, heap, "4,096 lines", &SQUARE, 1, 4099, 20480)?;
-    bound(
-        rt,
-        heap,
-        "an answer too short by one",
-        &SQUARE,
-        1,
-        4099,
-        20479,
-    )?;
-    bound(
-        rt,
-        heap,
-        "a store too short by one",
-        &SQUARE,
-        1,
-        4098,
-        20480,
-    )?;
-    bound(
-        rt,
-        heap,
-        "a longer store and answer",
-        &SQUARE,
-        1,
-        5000,
-        20490,
-    )?;
-    bound(
-        rt,
-        heap,
-        "just below 131,072 nodes",
-        &SQUARE,
-        126974,
-        131080,
-        20480,
-    )?;
-    bound(rt, heap, "one more stands", &SQUARE, 126975, 131080, 20480)?;
+    for (case, stand, nodes, numbers) in BOUNDS {
+        bound(rt, heap, case, &SQUARE, stand, nodes, numbers)?;
+    }
     costly(rt, heap)
 }
 
