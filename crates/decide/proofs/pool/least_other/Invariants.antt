@@ -3,4 +3,4 @@ use Rattle.condition.specs.Cond.{has}
 use Rattle.decide.proofs.pool.least_other.Given as goal
 
 abbrev pub invariant-loop-n : goal.invariant-loop-n
-invariant-loop-n l = (m : ℕ) → m < l.n → has l.numbers m ≡ true
+invariant-loop-n l = (m : ℕ) → m < l.n-counter → has l.numbers m ≡ true
