@@ -5,8 +5,8 @@ use Rattle.std.specs.List.{All}
 use Rattle.std.specs.Option.{option_map_or}
 use Rattle.std.proofs.Math.ListN.{get_or-append}
 use Rattle.std.proofs.lemmas.List.{get_or-take, get_or-append-add, length-take-le}
-use Rattle.std.proofs.lemmas.List.Elements.{All-nil, All-append, All-more, All-from_get_or, All-get_or}
-use Rattle.std.proofs.lemmas.Bool.{both_ways, cases_lt, lt-ltb, le-ltb, or_cases, or_parts}
+use Rattle.std.proofs.lemmas.List.Elements.{All-nil, All-append, All-more, All-from_get_or}
+use Rattle.std.proofs.lemmas.Bool.{both_ways, cases_lt, lt-ltb, le-ltb, or_parts}
 use Rattle.condition.specs.Cond.{Cond, cells_of, numbers, gaps, has, Within}
 use Rattle.condition.proofs.Lists.{has_at}
 use Rattle.evaluate.specs.Filling.{Filling, put, holds}
@@ -62,7 +62,7 @@ module _ (task : Task) where
   same_gaps false = refl
 
   pool_of : (t : Bool) → Pool (numbers (goal task t)) task.named task.pool.items
-  pool_of t = subst (λ (ns : List ℕ). Pool ns task.named task.pool.items) (sym (same_numbers t)) task.up.numbers
+  pool_of t = subst (λ (ns : List ℕ). Pool ns task.named task.pool.items) (sym (same_numbers t)) task.set_up.numbers
 
   -- the rows that were gathered go on from the first l rows, and what they leave is left
   pub record Gathered (depth : ℕ) (rows : List Row) (before : Met) (l : ℕ) (next : List Row) (met : Met) : Type 0 where
@@ -84,7 +84,7 @@ module _ (task : Task) where
         where
           all_on : (k : ℕ) → has (gaps (goal task t)) k ≡ true → on_of (tried task) depth k ≡ true
           all_on k u =
-              let p = has_place (tried task) task.gaps.distinct k (task.up.held k (subst (λ (ks : List ℕ). has ks k ≡ true) (same_gaps t) u)) in
+              let p = has_place (tried task) task.gaps.distinct k (task.set_up.held k (subst (λ (ks : List ℕ). has ks k ≡ true) (same_gaps t) u)) in
               rw p.2 (lt-ltb p.0 depth (omega (arith, p.1)))
 
       leaf_one : (t : Bool) (o p : Option Row) → Sound task t o → OrFirst o (side t lanes) rows p
@@ -147,7 +147,7 @@ module _ (task : Task) where
     on_next = fun_ext (on_more (tried task) task.gaps.distinct depth deep)
 
     room : task.named + r.used < length task.pool.items
-    room = omega (arith, b.few, task.up.many)
+    room = omega (arith, b.few, task.set_up.many)
 
     -- a row that goes on from r with number k of the pool
     module _ (s : Row) (k u : ℕ) (on : GoesOn r depth (get_or task.pool.items k 0) u s) where
@@ -219,7 +219,7 @@ FilledRow gs None None = Unit {0}
 -- what the search of the one row tells in which no gap is settled
 pub found_all : (task : Task) (t : Bool) (r : Row) (o : Option Row) (w : Option filled.Filling) → Sound task t o → (is_some o ≡ false → All (NoneFrom task 0 t) (r ∷ [])) → FilledRow (tried task) o w → Tried (goal task t) w
 found_all task t r (Some s) (Some w) h d f =
-    own_gaps (goal task t) (numbers_of w) (filling_of (tried task) s) (λ k u. f k (low k (task.up.held k (subst (λ (ks : List ℕ). has ks k ≡ true) (same_gaps task t) u)))) ∙ h
+    own_gaps (goal task t) (numbers_of w) (filling_of (tried task) s) (λ k u. f k (low k (task.set_up.held k (subst (λ (ks : List ℕ). has ks k ≡ true) (same_gaps task t) u)))) ∙ h
   where
     low : (k : ℕ) → has (tried task) k ≡ true → k < 64
     low k u = let e = found_at (tried task) k u in subst (λ (x : ℕ). x < 64) e.2 (task.gaps.low e.0 0 e.1)

@@ -1,8 +1,8 @@
 -- Numbers to try: the least ones that are not there yet, and what they suffice for.
-use Rattle.std.proofs.Common.{◌≡◌, ℕ, ◌+◌, ◌<◌, ◌≤◌, true, false, ◌≢◌, ◌⊎◌, List, [], ◌∷◌, ◌++◌, length, get_or, take, sym, refl, ap, ◌∙◌, subst, inl, inr, arith, length-append, take_all}
+use Rattle.std.proofs.Common.{◌≡◌, ℕ, ◌+◌, ◌<◌, ◌≤◌, true, false, ◌⊎◌, List, [], ◌∷◌, ◌++◌, length, get_or, take, MatchOption, unwrap_or, Some, None, Option, sym, ap, ◌∙◌, subst, inl, inr, arith, length-append, take_all}
 use Rattle.std.proofs.Math.Seq.{get_or-append_seam, take-append_seam}
 use Rattle.std.proofs.lemmas.List.{take-append-le, get_or_append_left}
-use Rattle.std.proofs.lemmas.Bool.{both_ways, cases_lt, cases_eq}
+use Rattle.std.proofs.lemmas.Bool.{both_ways, cases_lt}
 use Rattle.condition.specs.Cond.{has, Within}
 use Rattle.evaluate.specs.Filling.{Fresh}
 use Rattle.evaluate.proofs.Freshness.{fresh_small}
@@ -19,6 +19,12 @@ least_past ns h = record { new = new (fresh_small ns 1); least = h }
       | inl l ↦ absurd (both_ways (has ns (get_or f.0 0 0)) (f.1.new 0 (omega (arith, f.1.many))) (h (get_or f.0 0 0) l))
       | inr l ↦ let e : get_or f.0 0 0 ≡ length ns = omega (arith, f.2 0 (omega (arith, f.1.many))) in ap (has ns) (sym e) ∙ f.1.new 0 (omega (arith, f.1.many))
     ]
+
+-- the first number below the length that is not there, or else the length
+pub least_found : (ns : List ℕ) (r : Option ℕ) (n : ℕ)
+    → MatchOption r ((k : ℕ) → 0 ≤ k → k < length ns → has ns k ≡ true) (λ i. (0 ≤ i) × (i < length ns) × (has ns i ≡ false) × ((k : ℕ) → 0 ≤ k → k < i → has ns k ≡ true)) → n ≡ unwrap_or r (length ns) → LeastOther ns n
+least_found ns None n h e = rw e (least_past ns (λ m l. h m (omega arith) l))
+least_found ns (Some i) n h e = rw e (record { new = h.2; least = λ m l. h.3 m (omega arith) l })
 
 -- the numbers that are given and k fresh ones
 pub record Pooled (ns : List ℕ) (k : ℕ) (pool : List ℕ) : Type 0 where

@@ -2,6 +2,7 @@
 --
 --   Rails                         the lanes in which a condition can hold, and those in which it can fail
 --   MightBe gs depth rows r c     r says in each lane what the condition c might be under the row there
+--   Tells lanes r c               the same for the rows of some lanes
 --   Meets .. nodes goal r         r says in each lane whether the two goals might be met
 use Rattle.std.specs.Prelude.{◌≡◌, ℕ, ◌<◌, Bool, true, List, length}
 use Rattle.condition.specs.Cond.{Cond}
@@ -10,6 +11,7 @@ use Rattle.decide.specs.Might.{might}
 use Rattle.decide.specs.Sides.{side}
 use Rattle.decide.specs.Rows.{on_of, row}
 use Rattle.decide.specs.Goals.{goal_of}
+use Rattle.decide.specs.declared.lanes.Lanes.{Lanes}
 use Rattle.decide.specs.declared.rows.Row.{Row}
 use Rattle.decide.specs.declared.sides.Sides.{Sides}
 use Rattle.decide.specs.declared.task.Goal.{Goal}
@@ -20,6 +22,9 @@ Rails = Sides Word
 
 abbrev pub MightBe : List ℕ → ℕ → List Row → Rails → Cond → Type 0
 MightBe gs depth rows r c = (l : ℕ) → l < length rows → (t : Bool) → lane l (side t r) ≡ might (on_of gs depth) (row gs rows l) t c
+
+abbrev pub Tells : Lanes → Rails → Cond → Type 0
+Tells lanes r c = MightBe lanes.gaps.now.names.items lanes.table.depth lanes.table.rows.now r c
 
 abbrev pub Meets : List ℕ → ℕ → List Row → List ℕ → Goal → Rails → Type 0
 Meets gs depth rows nodes goal r = (l : ℕ) → l < length rows → (t : Bool) → lane l (side t r) ≡ might (on_of gs depth) (row gs rows l) true (goal_of nodes goal t)

@@ -9,7 +9,7 @@ ghost use Rattle.decide.specs.Bit.{lane};
 ghost use Rattle.decide.specs.Might.{tell};
 ghost use Rattle.decide.specs.Sides.{side};
 ghost use Rattle.decide.specs.Rows.{place, on_of};
-ghost use Rattle.decide.specs.Lanes.{MightBe, Meets};
+ghost use Rattle.decide.specs.Lanes.{Tells, Meets};
 
 use crate::columns::Table;
 use crate::gaps::Gaps;
@@ -54,7 +54,7 @@ struct Lanes<'a> {
 impl Sense for Lanes<'_> {
     type Value = Rails;
 
-    ghost means = { λ s r c. MightBe s.gaps.now.names.items s.table.depth s.table.rows.now r c };
+    ghost means = { Tells };
 
     fn constant(&self, holds: bool) -> Rails {
         settled(Word::same(holds))
@@ -94,7 +94,7 @@ impl Sense for Lanes<'_> {
 impl Lanes<'_> {
     // Whether a gap might have a number.
     fn equal_number(&self, k: u64, n: u64) -> Rails
-        ensures { MightBe self.now.gaps.now.names.items self.now.table.depth self.now.table.rows.now result (equal (gap k) (known n)) }
+        ensures { Tells self.now result (equal (gap k) (known n)) }
     {
         match self.settled_place(k) {
             Some(p) => settled(self.table.number(p, n)),
@@ -104,7 +104,7 @@ impl Lanes<'_> {
 
     // Whether two gaps might have the same number.
     fn equal_gap(&self, j: u64, k: u64) -> Rails
-        ensures { MightBe self.now.gaps.now.names.items self.now.table.depth self.now.table.rows.now result (equal (gap j) (gap k)) }
+        ensures { Tells self.now result (equal (gap j) (gap k)) }
     {
         if j == k {
             return self.constant(true);
@@ -126,8 +126,8 @@ impl Lanes<'_> {
     // What the condition at a place of a store might be, once its nodes are worked out; one that does not stand is never.
     fn value_at(&self, nodes: &[u64], place: u64, values: &[Rails]) -> Rails
         requires store { (1 ≤ length nodes.now) × (count nodes.now ≤ length values.now) }
-        requires worked { ComeTo (MightBe self.now.gaps.now.names.items self.now.table.depth self.now.table.rows.now) nodes.now (count nodes.now) values.now }
-        ensures { MightBe self.now.gaps.now.names.items self.now.table.depth self.now.table.rows.now result (cond_at nodes.now place) }
+        requires worked { ComeTo (Tells self.now) nodes.now (count nodes.now) values.now }
+        ensures { Tells self.now result (cond_at nodes.now place) }
     {
         if place < nodes[0] {
             values[place as usize]

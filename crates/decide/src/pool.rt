@@ -24,10 +24,6 @@ pub(crate) fn pool(numbers: &[u64], fresh: usize) -> ArrayVec<u64, 14>
 fn least_other(numbers: &[u64]) -> u64
     ensures { LeastOther numbers.now result }
 {
-    for n in 0..numbers.len() as u64 {
-        if !numbers.contains(&n) {
-            return n;
-        }
-    }
-    numbers.len() as u64
+    let count = numbers.len() as u64;
+    (0..count).find(|n| !numbers.contains(n)).unwrap_or(count)
 }

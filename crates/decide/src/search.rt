@@ -45,7 +45,13 @@ impl Met {
 // What can be found of both goals among the fillings that go on from some rows, in which the gaps before `depth` are settled.
 //
 // A row goes on while it might meet a goal that has no row yet; with all gaps settled, what might meet a goal meets it.
-pub(crate) fn search(task: &Task, depth: usize, rows: &[Row], values: &mut [Rails], met: Met) -> Met
+pub(crate) fn search(
+    task: &Task,
+    depth: usize,
+    rows: &[Row],
+    values: &mut [Rails],
+    mut met: Met,
+) -> Met
     requires room { count task.now.cone.now ≤ length values.old }
     requires few { (length rows.now ≤ 256) × (depth ≤ length (tried task.now)) }
     requires begun { All (Begun task.now depth) rows.now }
@@ -59,7 +65,6 @@ pub(crate) fn search(task: &Task, depth: usize, rows: &[Row], values: &mut [Rail
     if depth == task.gaps.names.len() {
         return met.or_first(&lanes, rows);
     }
-    let mut met = met;
     let mut next = ArrayVec::<Row, 256>::new();
     for (l, row) in rows.iter().enumerate() {
         if next.remaining_capacity() < 14 {

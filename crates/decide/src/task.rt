@@ -22,5 +22,5 @@ pub(crate) struct Task<'a> {
     pub(crate) pool: ArrayVec<u64, 14>,
     pub(crate) named: usize,
     ghost stands: { 1 + 5 * count cone.now ≤ length cone.now },
-    ghost up: { SetUp cone.now goal gaps.names.items pool.items named },
+    ghost set_up: { SetUp cone.now goal gaps.names.items pool.items named },
 }

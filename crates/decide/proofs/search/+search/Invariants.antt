@@ -6,4 +6,4 @@ abbrev pub decreases-search : goal.decreases-search
 decreases-search l = length l.task.now.gaps.names.items - l.depth
 
 abbrev pub invariant-loop-l : goal.invariant-loop-l
-invariant-loop-l l = Gathered l.task l.depth l.rows l.initial.met l.l l.next.items l.met
+invariant-loop-l l = Gathered l.task l.depth l.rows l.fn.met l.l l.next.items l.met

@@ -1,11 +1,8 @@
 use Rattle.std.proofs.Common.{◌≡◌, length, get_or, sym, ◌∙◌, arith}
 use Rattle.condition.specs.Cond.{has}
-use Rattle.decide.proofs.Listing.{has_any, none_collected, collected_still, collected_more, collected_within}
+use Rattle.decide.proofs.Listing.{has_any, collected_still, collected_more, collected_within}
 use Rattle.decide.proofs.gaps.Gaps.listed.Goals as goal
 use Rattle.decide.proofs.gaps.Gaps.listed.Goals.{then-not-contains, else-not-contains}
-
-pub loop-gap-init : goal.loop-gap-init
-loop-gap-init c = rw c.new-names.ensures (none_collected c.args.gaps.now)
 
 pub loop-gap-preserved : goal.loop-gap-preserved
 loop-gap-preserved c =

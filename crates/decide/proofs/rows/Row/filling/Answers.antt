@@ -1,9 +1,6 @@
-use Rattle.std.proofs.Common.{◌≡◌, ◌<◌, length, sym, ap, ◌∙◌, arith}
-use Rattle.decide.proofs.Listing.{upto_none, upto_all, upto_more}
+use Rattle.std.proofs.Common.{◌≡◌, ◌<◌, length, ap, ◌∙◌, arith}
+use Rattle.decide.proofs.Listing.{upto_all, upto_more}
 use Rattle.decide.proofs.rows.Row.filling.Goals as goal
-
-pub loop-p-init : goal.loop-p-init
-loop-p-init c k = c.zeros-filling.ensures k ∙ sym (upto_none c.args.gaps.now.names.items c.args.self k)
 
 pub loop-p-preserved : goal.loop-p-preserved
 loop-p-preserved c k =

@@ -1,5 +1,4 @@
-use Rattle.std.proofs.Common.{◌/◌, ◌%◌, ◌^◌, arith, get_or}
-use Rattle.std.proofs.lemmas.Nat.{one_shl}
+use Rattle.std.proofs.Common.{◌/◌, ◌%◌, arith, get_or}
 use Rattle.decide.specs.Bit.{lane}
 use Rattle.decide.proofs.Bits64.{bit_with}
 use Rattle.decide.proofs.Fours.{place, low, with_four}

@@ -1,4 +1,4 @@
-use Rattle.std.proofs.Common.{◌≡◌, ℕ, ◌-◌, ◌/◌, ◌%◌, ◌^◌, ◌<◌, get_or, ap, ◌∙◌, rules}
+use Rattle.std.proofs.Common.{◌≡◌, ◌-◌, ◌/◌, ◌%◌, ◌^◌, ◌<◌, get_or, ap, ◌∙◌, rules}
 use Rattle.decide.specs.Bit.{bit, lane}
 use Rattle.decide.proofs.Bits64.{bit_not}
 use Rattle.decide.proofs.Fours.{place, low}
