@@ -63,8 +63,9 @@ impl Sense for Lanes<'_> {
     fn equal(&self, a: Cell, b: Cell) -> Rails {
         match (a, b) {
             (Cell::Number(m), Cell::Number(n)) => self.constant(m == n),
-            (Cell::Gap(k), Cell::Number(n)) => self.equal_number(k, n),
-            (Cell::Number(n), Cell::Gap(k)) => self.equal_number(k, n),
+            (Cell::Gap(k), Cell::Number(n)) | (Cell::Number(n), Cell::Gap(k)) => {
+                self.equal_number(k, n)
+            }
             (Cell::Gap(j), Cell::Gap(k)) => self.equal_gap(j, k),
         }
     }

@@ -2,7 +2,7 @@
 ghost use Rattle.std.specs.Prelude.{Bool};
 ghost use Rattle.decide.specs.Sides.{side};
 
-// Something that is there twice: once for a condition that holds, once for one that does not.
+// Two of a kind: one for a condition that holds, and one for a condition that fails.
 #[derive(Clone, Copy, Default)]
 pub(crate) struct Sides<T> {
     pub(crate) yes: T,
