@@ -1,8 +1,8 @@
 -- The bits of numbers put together.
-use Rattle.std.proofs.Common.{◌≡◌, ℕ, zero, suc, ◌-◌, ◌/◌, ◌%◌, ◌^◌, ◌<◌, min, max, Bool, true, false, not, ◌&&◌, ◌||◌, eqb, ◌⊎◌, sym, refl, ap, ◌∙◌, subst, inl, inr, mod-eq_of_lt, pow-suc, div-one, one-add, arith}
+use Rattle.std.proofs.Common.{◌≡◌, ℕ, zero, suc, ◌-◌, ◌*◌, ◌/◌, ◌%◌, ◌^◌, ◌<◌, min, max, Bool, true, false, not, ◌&&◌, ◌||◌, eqb, ◌⊎◌, sym, refl, ap, ◌∙◌, subst, inl, inr, mod-eq_of_lt, pow-suc, div-one, one-add, arith}
 use native.Mathlib.Nat.{mul-add-mod_self_right}
 use lib.Bits.{bit_and, bit_or, bit_xor, differ, and_step, or_step, xor_step, xor_add_and}
-use Rattle.std.proofs.lemmas.Nat.{shr-shr, and_shr, or_shr, xor_shr, and_mask, mod_below, pow_below, shl-shr}
+use Rattle.std.proofs.lemmas.Nat.{shr-shr, and_shr, or_shr, xor_shr, and_mask, mod_below, pow_below, shl-shr, one_shl, or_comm}
 use Rattle.std.proofs.lemmas.Bool.{eq-eqb, ne_eqb}
 use Rattle.std.proofs.lemmas.Bool.Decides.{nat_tests}
 use Rattle.decide.specs.Bit.{bit}
@@ -86,3 +86,7 @@ bit_not k l a h f =
     let all : bit_and a (2 ^ k - 1) ≡ a = and_mask a k ∙ mod-eq_of_lt f in
     let e : 2 ^ k - 1 - a ≡ bit_xor a (2 ^ k - 1) = omega (arith, xor_add_and a (2 ^ k - 1), all) in
     ap (bit l) e ∙ ap (λ (z : ℕ). eqb (z % 2) 1) (xor_shr a (2 ^ k - 1) l) ∙ xor_low (a / 2 ^ l) ((2 ^ k - 1) / 2 ^ l) (bit_all k l h)
+
+-- a number with one answer turned to yes
+pub bit_with : (a k : ℕ) → k < 64 → (l : ℕ) → bit l (bit_or a (1 * 2 ^ k % 18446744073709551616)) ≡ (eqb l k || bit l a)
+bit_with a k h l = ap (bit l) (or_comm a _) ∙ (bit-or l _ a ∙ ap (λ (t : Bool). t || bit l a) (ap (bit l) (one_shl k 64 h) ∙ bit_one l k))

@@ -1,35 +1,33 @@
 -- The steps of the search over rows.
-use Rattle.std.proofs.Common.{◌≡◌, ℕ, suc, ◌+◌, ◌-◌, ◌<◌, ◌≤◌, Bool, true, false, cond as if, not, ◌&&◌, ◌||◌, eqb, ◌⊎◌, List, [], ◌∷◌, length, get_or, take, is_some, Some, None, Option, sym, refl, ap, ◌∙◌, subst, inl, inr, arith, below_more}
+use Rattle.std.proofs.Common.{◌≡◌, ℕ, ◌+◌, ◌<◌, ◌≤◌, Bool, true, false, cond as if, not, ◌&&◌, ◌||◌, eqb, ltb, ◌⊎◌, List, [], ◌∷◌, ◌++◌, length, get_or, take, is_some, Some, None, Option, sym, refl, ap, ◌∙◌, subst, inl, inr, arith, take_all, length-append}
 use mathlib.Core.Path.{fun_ext}
-use Rattle.std.proofs.lemmas.List.{get_or-take, length-take-le}
-use Rattle.std.proofs.lemmas.Bool.{both_ways, cases_lt, lt-ltb, le-ltb, eqb-true, or_cases, or_parts}
+use Rattle.std.specs.List.{All}
+use Rattle.std.specs.Option.{option_map_or}
+use Rattle.std.proofs.Math.ListN.{get_or-append}
+use Rattle.std.proofs.lemmas.List.{get_or-take, get_or-append-add, length-take-le}
+use Rattle.std.proofs.lemmas.List.Elements.{All-nil, All-append, All-more, All-from_get_or}
+use Rattle.std.proofs.lemmas.Bool.{both_ways, cases_lt, lt-ltb, le-ltb, or_parts}
 use Rattle.condition.specs.Cond.{Cond, cells_of, numbers, gaps, has, Within}
-use Rattle.condition.proofs.Lists.{has_none, has_cons, has_at}
+use Rattle.condition.proofs.Lists.{has_at}
 use Rattle.evaluate.specs.Filling.{Filling, put, holds}
+use Rattle.evaluate.specs.Shapes.{numbers_of}
+use Rattle.evaluate.specs.declared.Filling as filled
+use Rattle.evaluate.proofs.Holding.{own_gaps}
 use Rattle.decide.specs.Bit.{lane}
 use Rattle.decide.specs.Might.{might, Dead, put_on}
-use Rattle.decide.specs.Rows.{name, place, on_of, number_at, filling_of, blank, row}
-use Rattle.decide.specs.Lanes.{rail, goal_of}
-use Rattle.decide.specs.Search.{Pool, SetUp, Begun, AllBegun, found, Sound, DeadFrom, Searched, wanted, OrFirst, Extended}
+use Rattle.decide.specs.Sides.{side}
+use Rattle.decide.specs.Rows.{place, on_of, GoesOn, filling_of, blank, row}
+use Rattle.decide.specs.Goals.{Pool}
+use Rattle.decide.specs.Lanes.{Rails, Meets}
+use Rattle.decide.specs.Search.{tried, goal, Begun, Met, Sound, NoneFrom, Searched, wanted, OrFirst, Extended}
+use Rattle.decide.specs.Trying.{Tried}
 use Rattle.decide.specs.declared.rows.Row.{Row}
-use Rattle.decide.specs.declared.lanes.Rails.{Rails}
 use Rattle.decide.specs.declared.task.Task.{Task}
-use Rattle.decide.specs.declared.task.Goal.{Goal}
-use Rattle.decide.specs.declared.search.Met.{Met}
 use Rattle.decide.proofs.Mights.{might_exact, dead_now}
 use Rattle.decide.proofs.Steps.{few_steps}
-use Rattle.decide.proofs.Listing.{on_more, filling_more}
+use Rattle.decide.proofs.Listing.{found_at, has_place, on_more, filling_more}
 
--- what stands in a list stands at some place of it
-pub found_at : (xs : List ℕ) (x : ℕ) → has xs x ≡ true → (j : ℕ) × (j < length xs) × (get_or xs j 0 ≡ x)
-found_at [] x h = absurd (has_none x h)
-found_at (y ∷ xs) x h = go (found_at xs x) (or_cases (eqb y x) (has xs x) (sym (has_cons y xs x) ∙ h))
-  where
-    go : (has xs x ≡ true → (j : ℕ) × (j < length xs) × (get_or xs j 0 ≡ x)) → (eqb y x ≡ true) ⊎ (has xs x ≡ true) → (j : ℕ) × (j < suc (length xs)) × (get_or (y ∷ xs) j 0 ≡ x)
-    go ih (inl e) = (0, omega arith, eqb-true y x e)
-    go ih (inr u) = let f : (j : ℕ) × (j < length xs) × (get_or xs j 0 ≡ x) = ih u in (suc f.0, omega (arith, f.1), f.2)
-
-pub front_has : (n : ℕ) (xs : List ℕ) (j : ℕ) → j < n → n ≤ length xs → has (take n xs) (get_or xs j 0) ≡ true
+front_has : (n : ℕ) (xs : List ℕ) (j : ℕ) → j < n → n ≤ length xs → has (take n xs) (get_or xs j 0) ≡ true
 front_has n xs j l m = subst (λ (y : ℕ). has (take n xs) y ≡ true) (get_or-take n xs j 0 l) (has_at (take n xs) j (omega (arith, length-take-le n xs m)))
 
 -- more of a list has no less
@@ -39,184 +37,196 @@ front_more n k xs l m x h =
     let b : f.0 < n = omega (arith, f.1, length-take-le n xs (omega arith)) in
     subst (λ (y : ℕ). has (take k xs) y ≡ true) (sym (get_or-take n xs f.0 0 b) ∙ f.2) (front_has k xs f.0 (omega arith) m)
 
--- both goals name the same numbers and gaps
-same_numbers : (nodes : List ℕ) (goal : Goal) (t : Bool) → numbers (goal_of nodes goal t) ≡ numbers (goal_of nodes goal true)
-unfolding cells_of
-same_numbers nodes goal true = refl
-same_numbers nodes goal false = refl
-
-pub same_gaps : (nodes : List ℕ) (goal : Goal) (t : Bool) → gaps (goal_of nodes goal t) ≡ gaps (goal_of nodes goal true)
-unfolding cells_of
-same_gaps nodes goal true = refl
-same_gaps nodes goal false = refl
-
 -- the numbers of the pool that are named or in use, and the next one, lead nowhere
-all_dead : (on : ℕ → Bool) (v : Filling) (c : Cond) (pool : List ℕ) (m n size g : ℕ) → Pool (numbers c) m size pool → ((k : ℕ) → on k ≡ true → has (take n pool) (v k) ≡ true) → m ≤ n → n < size → n < length pool
+all_dead : (on : ℕ → Bool) (v : Filling) (c : Cond) (pool : List ℕ) (m n g : ℕ) → Pool (numbers c) m pool → ((k : ℕ) → on k ≡ true → has (take n pool) (v k) ≡ true) → m ≤ n → n < length pool
     → ((j : ℕ) → j < n + 1 → Dead (put_on on g) (put v g (get_or pool j 0)) c) → Dead on v c
 unfolding Within
-all_dead on v c pool m n size g q drawn l u w all =
-    few_steps on v c (take n pool) g (get_or pool n 0) (λ x h. front_more m n pool l (omega arith) x (q.named x h)) drawn (q.fresh n l u) (λ x h. each x (found_at (take n pool) x h)) (all n (omega arith))
+all_dead on v c pool m n g q drawn l w all =
+    few_steps on v c (take n pool) g (get_or pool n 0) (λ x h. front_more m n pool l (omega arith) x (q.named x h)) drawn (q.fresh n l w) (λ x h. each x (found_at (take n pool) x h)) (all n (omega arith))
   where
     each : (x : ℕ) → (j : ℕ) × (j < length (take n pool)) × (get_or (take n pool) j 0 ≡ x) → Dead (put_on on g) (put v g x) c
     each x f =
         let b : f.0 < n = omega (arith, f.1, length-take-le n pool (omega arith)) in
         subst (λ (y : ℕ). Dead (put_on on g) (put v g y) c) (sym (get_or-take n pool f.0 0 b) ∙ f.2) (all f.0 (omega arith))
 
--- the rows that were gathered go on from the first l rows, and what they leave is left
-pub record Gathered (nodes : List ℕ) (task : Task) (depth : ℕ) (rows : List Row) (before : Met) (l : ℕ) (next : List Row) (count : ℕ) (met : Met) : Type 0 where
-  pub room : length next ≡ 256
-  pub few : count ≤ 256
-  pub begun : AllBegun task (depth + 1) next count
-  pub sound : (t : Bool) → Sound nodes task t (found t met)
-  pub kept : (t : Bool) → is_some (found t met) ≡ false → is_some (found t before) ≡ false
-  pub dead : (t : Bool) → is_some (found t met) ≡ false → DeadFrom nodes task (depth + 1) next count t → DeadFrom nodes task depth rows l t
+module _ (task : Task) where
+  -- both goals name the same numbers and gaps
+  same_numbers : (t : Bool) → numbers (goal task t) ≡ numbers (goal task true)
+  unfolding cells_of
+  same_numbers true = refl
+  same_numbers false = refl
 
-module _ (nodes : List ℕ) (task : Task) (up : SetUp nodes task) (long : length task.pool ≡ 14) where
-  abbrev G : Bool → Cond
-  G t = goal_of nodes task.goal t
+  pub same_gaps : (t : Bool) → gaps (goal task t) ≡ gaps (goal task true)
+  unfolding cells_of
+  same_gaps true = refl
+  same_gaps false = refl
 
-  pool_of : (t : Bool) → Pool (numbers (G t)) task.named (task.named + task.gaps.count) task.pool
-  pool_of t = subst (λ (ns : List ℕ). Pool ns task.named (task.named + task.gaps.count) task.pool) (sym (same_numbers nodes task.goal t)) up.pool
+  pool_of : (t : Bool) → Pool (numbers (goal task t)) task.named task.pool.items
+  pool_of t = subst (λ (ns : List ℕ). Pool ns task.named task.pool.items) (sym (same_numbers t)) task.set_up.numbers
 
-  -- with all gaps settled, what might meet a goal meets it
-  settled_meets : (t : Bool) (depth : ℕ) (r : Row) → depth ≡ task.gaps.count → might (on_of task.gaps depth) (filling_of task.gaps r) true (G t) ≡ true → holds (filling_of task.gaps r) (G t) ≡ true
-  settled_meets t depth r e h =
-      sym (might_exact (on_of task.gaps depth) (filling_of task.gaps r) (G t) true (λ k u. lt-ltb (place task.gaps k) depth (omega (arith, up.held k (subst (λ (ks : List ℕ). has ks k ≡ true) (same_gaps nodes task.goal t) u))))) ∙ h
+  -- the rows that were gathered go on from the first l rows, and what they leave is left
+  pub record Gathered (depth : ℕ) (rows : List Row) (before : Met) (l : ℕ) (next : List Row) (met : Met) : Type 0 where
+    pub begun : All (Begun task (depth + 1)) next
+    pub sound : (t : Bool) → Sound task t (side t met)
+    pub kept : (t : Bool) → is_some (side t met) ≡ false → is_some (side t before) ≡ false
+    pub dead : (t : Bool) → is_some (side t met) ≡ false → All (NoneFrom task (depth + 1) t) next → All (NoneFrom task depth t) (take l rows)
 
-  -- all gaps are settled
-  module _ (depth : ℕ) (deep : depth ≡ task.gaps.count) (rows : List Row) (lanes : Rails) (before after : Met)
-      (might-is : (l : ℕ) → l < length rows → (t : Bool) → lane l (rail t lanes) ≡ might (on_of task.gaps depth) (row task.gaps rows l) true (G t))
-      (sound : (t : Bool) → Sound nodes task t (found t before)) (firsts : (t : Bool) → OrFirst (found t before) (rail t lanes) rows (found t after)) where
-    leaf_one : (t : Bool) (o p : Option Row) → Sound nodes task t o → OrFirst o (rail t lanes) rows p
-        → Sound nodes task t p × (is_some p ≡ false → is_some o ≡ false) × (is_some p ≡ false → DeadFrom nodes task depth rows (length rows) t)
-    leaf_one t (Some s) p h f =
-        (subst (λ (q : Option Row). Sound nodes task t q) (sym f) h, λ e. absurd (both_ways (is_some p) e (ap is_some f)), λ e. absurd (both_ways (is_some p) e (ap is_some f)))
-    leaf_one t None (Some r) h f = (
-      subst (λ (q : Row). holds (filling_of task.gaps q) (G t) ≡ true) (sym f.3) (settled_meets t depth (get_or rows f.0 blank) deep (sym (might-is f.0 f.1 t) ∙ f.2)),
-      λ e. refl,
-      λ e. absurd (both_ways true e refl),
-    )
-    leaf_one t None None h f = (tt, λ e. refl, λ e l k. dead_now (on_of task.gaps depth) (row task.gaps rows l) (G t) (sym (might-is l k t) ∙ f l k))
+  pub none_gathered : (depth : ℕ) (rows : List Row) (before : Met) → ((t : Bool) → Sound task t (side t before)) → Gathered depth rows before 0 [] before
+  none_gathered depth rows before sound = record { begun = All-nil (Begun task (depth + 1)); sound = sound; kept = λ t e. e; dead = λ t e d. All-nil (NoneFrom task depth t) }
 
-    pub at_leaves : Searched nodes task depth rows before after
-    at_leaves = record {
-      sound = λ t. (leaf_one t (found t before) (found t after) (sound t) (firsts t)).0;
-      kept = λ t. (leaf_one t (found t before) (found t after) (sound t) (firsts t)).1;
-      dead = λ t. (leaf_one t (found t before) (found t after) (sound t) (firsts t)).2;
-    }
-
-  -- one gap more
-  module _ (depth : ℕ) (deep : depth < task.gaps.count) where
-    on_next : on_of task.gaps (depth + 1) ≡ put_on (on_of task.gaps depth) (name task.gaps depth)
-    on_next = fun_ext (on_more task.gaps up.placed depth deep)
-
-    -- a row that goes on from r with number k of the pool
-    module _ (r s : Row) (k used : ℕ) (b : Begun task depth r) (numbers_are : (p : ℕ) → number_at s p ≡ if (eqb p depth) (get_or task.pool k 0) (number_at r p)) where
-      next_filling : filling_of task.gaps s ≡ put (filling_of task.gaps r) (name task.gaps depth) (get_or task.pool k 0)
-      next_filling = fun_ext (filling_more task.gaps up.placed depth deep r s (get_or task.pool k 0) numbers_are)
-
-      next_begun : s.used ≡ used → used ≤ r.used + 1 → r.used ≤ used → k < task.named + used → Begun task (depth + 1) s
-      next_begun e z o i = record { few = omega (arith, b.few); drawn = drawn }
+  module _ (depth : ℕ) (rows : List Row) (before : Met) where
+    -- all gaps are settled
+    module _ (deep : depth ≡ length (tried task)) (lanes : Rails) (after : Met) (might-is : Meets (tried task) depth rows task.cone.now task.goal lanes)
+        (sound : (t : Bool) → Sound task t (side t before)) (firsts : (t : Bool) → OrFirst (side t before) (side t lanes) rows (side t after)) where
+      -- with all gaps settled, what might meet a goal meets it
+      settled_meets : (t : Bool) (r : Row) → might (on_of (tried task) depth) (filling_of (tried task) r) true (goal task t) ≡ true → holds (filling_of (tried task) r) (goal task t) ≡ true
+      settled_meets t r h = sym (might_exact (on_of (tried task) depth) (filling_of (tried task) r) (goal task t) true all_on) ∙ h
         where
-          room : task.named + used ≤ length task.pool
-          room = omega (arith, b.few, up.few, up.small)
+          all_on : (k : ℕ) → has (gaps (goal task t)) k ≡ true → on_of (tried task) depth k ≡ true
+          all_on k u =
+              let p = has_place (tried task) task.gaps.distinct k (task.set_up.held k (subst (λ (ks : List ℕ). has ks k ≡ true) (same_gaps t) u)) in
+              rw p.2 (lt-ltb p.0 depth (omega (arith, p.1)))
 
-          by : (j : ℕ) (t : Bool) → eqb j (name task.gaps depth) ≡ t → (t || on_of task.gaps depth j) ≡ true
-              → has (take (task.named + used) task.pool) (if t (get_or task.pool k 0) (filling_of task.gaps r j)) ≡ true
-          by j true p u = front_has (task.named + used) task.pool k i room
-          by j false p u = front_more (task.named + r.used) (task.named + used) task.pool (omega arith) room (filling_of task.gaps r j) (b.drawn j u)
+      leaf_one : (t : Bool) (o p : Option Row) → Sound task t o → OrFirst o (side t lanes) rows p
+          → Sound task t p × (is_some p ≡ false → is_some o ≡ false) × (is_some p ≡ false → All (NoneFrom task depth t) rows)
+      leaf_one t (Some s) p h f =
+          (subst (λ (q : Option Row). Sound task t q) (sym f) h, λ e. absurd (both_ways (is_some p) e (ap is_some f)), λ e. absurd (both_ways (is_some p) e (ap is_some f)))
+      leaf_one t None (Some r) h f = (
+        subst (λ (q : Row). holds (filling_of (tried task) q) (goal task t) ≡ true) (sym f.3) (settled_meets t (get_or rows f.0 blank) (sym (might-is f.0 f.1 t) ∙ f.2)),
+        λ e. refl,
+        λ e. absurd (both_ways true e refl),
+      )
+      leaf_one t None None h f = (
+        tt,
+        λ e. refl,
+        λ e. All-from_get_or (NoneFrom task depth t) rows blank (λ l k. dead_now (on_of (tried task) depth) (row (tried task) rows l) (goal task t) (sym (might-is l k t) ∙ f l k)),
+      )
 
-          drawn : (j : ℕ) → on_of task.gaps (depth + 1) j ≡ true → has (take (task.named + s.used) task.pool) (filling_of task.gaps s j) ≡ true
-          drawn j h =
-              rw e (subst (λ (v : Filling). has (take (task.named + used) task.pool) (v j) ≡ true) (sym next_filling)
-              (by j (eqb j (name task.gaps depth)) refl (subst (λ (on : ℕ → Bool). on j ≡ true) on_next h)))
+      pub at_leaves : Searched task depth rows before after
+      at_leaves = record {
+        sound = λ t. (leaf_one t (side t before) (side t after) (sound t) (firsts t)).0;
+        kept = λ t. (leaf_one t (side t before) (side t after) (sound t) (firsts t)).1;
+        dead = λ t. (leaf_one t (side t before) (side t after) (sound t) (firsts t)).2;
+      }
 
-      next_dead : (c : Cond) → Dead (on_of task.gaps (depth + 1)) (filling_of task.gaps s) c
-          → Dead (put_on (on_of task.gaps depth) (name task.gaps depth)) (put (filling_of task.gaps r) (name task.gaps depth) (get_or task.pool k 0)) c
-      next_dead c d = subst (λ (on : ℕ → Bool). Dead on (put (filling_of task.gaps r) (name task.gaps depth) (get_or task.pool k 0)) c) on_next
-          (subst (λ (v : Filling). Dead (on_of task.gaps (depth + 1)) v c) next_filling d)
-
-    pub none_gathered : (rows : List Row) (before : Met) (next : List Row) → length next ≡ 256 → ((t : Bool) → Sound nodes task t (found t before)) → Gathered nodes task depth rows before 0 next 0 before
-    none_gathered rows before next h sound =
-        record { room = h; few = omega arith; begun = λ l u. absurd (omega arith); sound = sound; kept = λ t e. e; dead = λ t e d l u. absurd (omega arith) }
-
-    -- the rows as they are lent
-    pub lent_begun : (next : List Row) (count : ℕ) → count ≤ length next → AllBegun task (depth + 1) next count → AllBegun task (depth + 1) (take count next) (length (take count next))
-    lent_begun next count h b l u =
-        let v : l < count = omega (arith, length-take-le count next h) in
-        subst (λ (r : Row). Begun task (depth + 1) r) (sym (get_or-take count next l blank v)) (b l v)
-
-    lent_dead : (next : List Row) (count : ℕ) (t : Bool) → count ≤ length next → DeadFrom nodes task (depth + 1) (take count next) (length (take count next)) t → DeadFrom nodes task (depth + 1) next count t
-    lent_dead next count t h d l u =
-        subst (λ (r : Row). Dead (on_of task.gaps (depth + 1)) (filling_of task.gaps r) (G t)) (get_or-take count next l blank u) (d l (omega (arith, length-take-le count next h)))
-
-    module _ (rows : List Row) (before : Met) (l : ℕ) (next : List Row) (count : ℕ) (met : Met) (g : Gathered nodes task depth rows before l next count met) where
+    module _ (l : ℕ) (next : List Row) (met : Met) (g : Gathered depth rows before l next met) where
       -- the gathered rows were searched
-      pub emptied : (after : Met) → Searched nodes task (depth + 1) (take count next) met after → Gathered nodes task depth rows before l next 0 after
+      pub emptied : (after : Met) → Searched task (depth + 1) next met after → Gathered depth rows before l [] after
       emptied after s = record {
-        room = g.room;
-        few = omega arith;
-        begun = λ p u. absurd (omega arith);
+        begun = All-nil (Begun task (depth + 1));
         sound = s.sound;
         kept = λ t e. g.kept t (s.kept t e);
-        dead = λ t e _. g.dead t (s.kept t e) (lent_dead next count t (omega (arith, g.few, g.room)) (s.dead t e));
+        dead = λ t e _. g.dead t (s.kept t e) (s.dead t e);
       }
 
       -- and there are no more
-      pub all_emptied : (after : Met) → l ≡ length rows → Searched nodes task (depth + 1) (take count next) met after → Searched nodes task depth rows before after
-      all_emptied after e s = record {
+      pub all_emptied : (after : Met) → length rows ≤ l → Searched task (depth + 1) next met after → Searched task depth rows before after
+      all_emptied after h s = record {
         sound = s.sound;
         kept = λ t i. g.kept t (s.kept t i);
-        dead = λ t i. subst (λ (n : ℕ). DeadFrom nodes task depth rows n t) e (g.dead t (s.kept t i) (lent_dead next count t (omega (arith, g.few, g.room)) (s.dead t i)));
+        dead = λ t i. subst (All (NoneFrom task depth t)) (take_all l rows h) (g.dead t (s.kept t i) (s.dead t i));
       }
 
       -- a row in which nothing that is left might be found
-      pub passed : (lanes : Rails) → ((t : Bool) → lane l (rail t lanes) ≡ might (on_of task.gaps depth) (row task.gaps rows l) true (G t)) → wanted met lanes l ≡ false → Gathered nodes task depth rows before (l + 1) next count met
-      passed lanes m w = record { room = g.room; few = g.few; begun = g.begun; sound = g.sound; kept = g.kept; dead = λ t e d. below_more _ _ (g.dead t e d) (gone t e) }
+      pub passed : l < length rows → (lanes : Rails) → Meets (tried task) depth rows task.cone.now task.goal lanes → wanted met lanes l ≡ false → Gathered depth rows before (l + 1) next met
+      passed u lanes m w = record { begun = g.begun; sound = g.sound; kept = g.kept; dead = λ t e d. All-more (NoneFrom task depth t) rows l blank u (g.dead t e d) (gone t e) }
         where
-          left : (t : Bool) → is_some (found t met) ≡ false → lane l (rail t lanes) ≡ false
-          left true e = rw e at (or_parts (not (is_some met.shows) && lane l lanes.can) (not (is_some met.lacks) && lane l lanes.fail) w).0
-          left false e = rw e at (or_parts (not (is_some met.shows) && lane l lanes.can) (not (is_some met.lacks) && lane l lanes.fail) w).1
+          left : (t : Bool) → is_some (side t met) ≡ false → lane l (side t lanes) ≡ false
+          left true e = rw e at (or_parts (not (is_some met.yes) && lane l lanes.yes) (not (is_some met.no) && lane l lanes.no) w).0
+          left false e = rw e at (or_parts (not (is_some met.yes) && lane l lanes.yes) (not (is_some met.no) && lane l lanes.no) w).1
 
-          gone : (t : Bool) → is_some (found t met) ≡ false → Dead (on_of task.gaps depth) (row task.gaps rows l) (G t)
-          gone t e = dead_now (on_of task.gaps depth) (row task.gaps rows l) (G t) (sym (m t) ∙ left t e)
+          gone : (t : Bool) → is_some (side t met) ≡ false → NoneFrom task depth t (get_or rows l blank)
+          gone t e = dead_now (on_of (tried task) depth) (row (tried task) rows l) (goal task t) (sym (m l u t) ∙ left t e)
 
-      -- a row that goes on
-      module _ (b : Begun task depth (get_or rows l blank)) (n : ℕ) (next₁ : List Row) (x : Extended task depth (get_or rows l blank) next count n next₁) (room : count ≤ 242) (wide : length next₁ ≡ 256) where
-        added_begun : (k : ℕ) → k < task.named + (get_or rows l blank).used + 1 → Begun task (depth + 1) (get_or next₁ (count + k) blank)
-        added_begun k h = by (cases_lt k (task.named + (get_or rows l blank).used))
-          where
-            to : (y : ℕ) → (get_or next₁ (count + k) blank).used ≡ y → y ≤ (get_or rows l blank).used + 1 → (get_or rows l blank).used ≤ y → k < task.named + y → Begun task (depth + 1) (get_or next₁ (count + k) blank)
-            to y = next_begun (get_or rows l blank) (get_or next₁ (count + k) blank) k y b (x.added k h)
+  -- one gap more
+  module _ (depth : ℕ) (deep : depth < length (tried task)) (r : Row) (b : Begun task depth r) where
+    abbrev gap : ℕ
+    gap = get_or (tried task) depth 0
 
-            by : (k < task.named + (get_or rows l blank).used) ⊎ (task.named + (get_or rows l blank).used ≤ k) → Begun task (depth + 1) (get_or next₁ (count + k) blank)
-            by (inl i) = to (get_or rows l blank).used (x.used k h ∙ rw (lt-ltb k (task.named + (get_or rows l blank).used) i) refl) (omega arith) (omega arith) i
-            by (inr i) = to ((get_or rows l blank).used + 1) (x.used k h ∙ rw (le-ltb k (task.named + (get_or rows l blank).used) i) refl) (omega arith) (omega arith) (omega arith)
+    on_next : on_of (tried task) (depth + 1) ≡ put_on (on_of (tried task) depth) gap
+    on_next = fun_ext (on_more (tried task) task.gaps.distinct depth deep)
 
-        all_begun : AllBegun task (depth + 1) next₁ n
-        all_begun p h = by (cases_lt p count)
-          where
-            by : (p < count) ⊎ (count ≤ p) → Begun task (depth + 1) (get_or next₁ p blank)
-            by (inl i) = subst (λ (r : Row). Begun task (depth + 1) r) (sym (x.kept p i)) (g.begun p i)
-            by (inr i) =
-                let e : count + (p - count) ≡ p = omega arith in
-                subst (λ (z : ℕ). Begun task (depth + 1) (get_or next₁ z blank)) e (added_begun (p - count) (omega (arith, x.many)))
+    room : task.named + r.used < length task.pool.items
+    room = omega (arith, b.few, task.set_up.many)
 
-        here_dead : (t : Bool) → DeadFrom nodes task (depth + 1) next₁ n t → Dead (on_of task.gaps depth) (row task.gaps rows l) (G t)
-        here_dead t d =
-            all_dead (on_of task.gaps depth) (row task.gaps rows l) (G t) task.pool task.named (task.named + (get_or rows l blank).used) (task.named + task.gaps.count) (name task.gaps depth)
-            (pool_of t) b.drawn (omega arith) (omega (arith, b.few)) (omega (arith, b.few, up.few, up.small))
-            (λ j h. next_dead (get_or rows l blank) (get_or next₁ (count + j) blank) j 0 b (x.added j h) (G t) (d (count + j) (omega (arith, x.many))))
+    -- a row that goes on from r with number k of the pool
+    module _ (s : Row) (k u : ℕ) (on : GoesOn r depth (get_or task.pool.items k 0) u s) where
+      next_filling : filling_of (tried task) s ≡ put (filling_of (tried task) r) gap (get_or task.pool.items k 0)
+      next_filling = fun_ext (filling_more (tried task) task.gaps.distinct depth deep r s (get_or task.pool.items k 0) u on)
 
-        before_dead : (t : Bool) → DeadFrom nodes task (depth + 1) next₁ n t → DeadFrom nodes task (depth + 1) next count t
-        before_dead t d p u = subst (λ (r : Row). Dead (on_of task.gaps (depth + 1)) (filling_of task.gaps r) (G t)) (x.kept p u) (d p (omega (arith, x.many)))
+      next_begun : u ≤ r.used + 1 → r.used ≤ u → k < task.named + u → Begun task (depth + 1) s
+      next_begun z o i = record { few = omega (arith, b.few, on.used); drawn = drawn }
+        where
+          fits : task.named + u ≤ length task.pool.items
+          fits = omega (arith, room)
 
-        pub one_more : Gathered nodes task depth rows before (l + 1) next₁ n met
-        one_more = record {
-          room = wide;
-          few = omega (arith, x.many, b.few, up.few, up.small);
-          begun = all_begun;
-          sound = g.sound;
-          kept = g.kept;
-          dead = λ t e d. below_more _ _ (g.dead t e (before_dead t d)) (here_dead t d);
-        }
+          by : (j : ℕ) (t : Bool) → eqb j gap ≡ t → (t || on_of (tried task) depth j) ≡ true
+              → has (take (task.named + u) task.pool.items) (if t (get_or task.pool.items k 0) (filling_of (tried task) r j)) ≡ true
+          by j true p q = front_has (task.named + u) task.pool.items k i fits
+          by j false p q = front_more (task.named + r.used) (task.named + u) task.pool.items (omega arith) fits (filling_of (tried task) r j) (b.drawn j q)
+
+          drawn : (j : ℕ) → on_of (tried task) (depth + 1) j ≡ true → has (take (task.named + s.used) task.pool.items) (filling_of (tried task) s j) ≡ true
+          drawn j h =
+              rw on.used (subst (λ (v : Filling). has (take (task.named + u) task.pool.items) (v j) ≡ true) (sym next_filling)
+              (by j (eqb j gap) refl (subst (λ (on : ℕ → Bool). on j ≡ true) on_next h)))
+
+      next_dead : (c : Cond) → Dead (on_of (tried task) (depth + 1)) (filling_of (tried task) s) c
+          → Dead (put_on (on_of (tried task) depth) gap) (put (filling_of (tried task) r) gap (get_or task.pool.items k 0)) c
+      next_dead c d = subst (λ (on : ℕ → Bool). Dead on (put (filling_of (tried task) r) gap (get_or task.pool.items k 0)) c) on_next
+          (subst (λ (v : Filling). Dead (on_of (tried task) (depth + 1)) v c) next_filling d)
+
+    module _ (next next₁ : List Row) (x : Extended task depth r next next₁) where
+      added_begun : All (Begun task (depth + 1)) x.added
+      added_begun = All-from_get_or (Begun task (depth + 1)) x.added blank (λ k h. by k (x.each k h) (omega (arith, x.many)) (cases_lt k (task.named + r.used)))
+        where
+          by : (k : ℕ) → GoesOn r depth (get_or task.pool.items k 0) (if (ltb k (task.named + r.used)) r.used (r.used + 1)) (get_or x.added k blank) → k < task.named + r.used + 1
+              → (k < task.named + r.used) ⊎ (task.named + r.used ≤ k) → Begun task (depth + 1) (get_or x.added k blank)
+          by k on h (inl i) = next_begun (get_or x.added k blank) k r.used (rw (lt-ltb k (task.named + r.used) i) at on) (omega arith) (omega arith) i
+          by k on h (inr i) = next_begun (get_or x.added k blank) k (r.used + 1) (rw (le-ltb k (task.named + r.used) i) at on) (omega arith) (omega arith) (omega arith)
+
+      pub more_begun : All (Begun task (depth + 1)) next → All (Begun task (depth + 1)) next₁
+      more_begun a = rw x.behind (All-append (Begun task (depth + 1)) next x.added a added_begun)
+
+      -- where nothing comes of the rows that go on, nothing comes of r
+      pub here_dead : (t : Bool) → All (NoneFrom task (depth + 1) t) next₁ → All (NoneFrom task (depth + 1) t) next × NoneFrom task depth t r
+      here_dead t d = (
+        λ k e h. subst (NoneFrom task (depth + 1) t) (get_or-append next x.added e k h) (all k e (simp length-append (omega arith))),
+        all_dead (on_of (tried task) depth) (filling_of (tried task) r) (goal task t) task.pool.items task.named (task.named + r.used) gap (pool_of t) b.drawn (omega arith) room
+            (λ j h. next_dead (get_or x.added j blank) j _ (x.each j (omega (arith, x.many))) (goal task t)
+            (subst (NoneFrom task (depth + 1) t) (get_or-append-add next x.added j blank) (all (length next + j) blank (simp length-append (omega (arith, x.many)))))),
+      )
+        where
+          all : All (NoneFrom task (depth + 1) t) (next ++ x.added)
+          all = rw x.behind at d
+
+  -- a row that goes on
+  pub one_more : (depth : ℕ) → depth < length (tried task) → (rows : List Row) (before : Met) (l : ℕ) (next : List Row) (met : Met) → Gathered depth rows before l next met → l < length rows
+      → Begun task depth (get_or rows l blank) → (next₁ : List Row) → Extended task depth (get_or rows l blank) next next₁ → Gathered depth rows before (l + 1) next₁ met
+  one_more depth deep rows before l next met g h b next₁ x = record {
+    begun = more_begun depth deep (get_or rows l blank) b next next₁ x g.begun;
+    sound = g.sound;
+    kept = g.kept;
+    dead = λ t e d. let n = here_dead depth deep (get_or rows l blank) b next next₁ x t d in All-more (NoneFrom task depth t) rows l blank h (g.dead t e n.0) n.1;
+  }
+
+-- the filling of a row, if there is one
+abbrev pub FilledRow : List ℕ → Option Row → Option filled.Filling → Type 0
+FilledRow gs (Some r) (Some w) = (k : ℕ) → k < 64 → numbers_of w k ≡ filling_of gs r k
+FilledRow gs (Some r) None = ⊥
+FilledRow gs None (Some w) = ⊥
+FilledRow gs None None = Unit {0}
+
+-- what the search of the one row tells in which no gap is settled
+pub found_all : (task : Task) (t : Bool) (r : Row) (o : Option Row) (w : Option filled.Filling) → Sound task t o → (is_some o ≡ false → All (NoneFrom task 0 t) (r ∷ [])) → FilledRow (tried task) o w → Tried (goal task t) w
+found_all task t r (Some s) (Some w) h d f =
+    own_gaps (goal task t) (numbers_of w) (filling_of (tried task) s) (λ k u. f k (low k (task.set_up.held k (subst (λ (ks : List ℕ). has ks k ≡ true) (same_gaps task t) u)))) ∙ h
+  where
+    low : (k : ℕ) → has (tried task) k ≡ true → k < 64
+    low k u = let e = found_at (tried task) k u in subst (λ (x : ℕ). x < 64) e.2 (task.gaps.low e.0 0 e.1)
+found_all task t r (Some s) None h d f = absurd f
+found_all task t r None (Some w) h d f = absurd f
+found_all task t r None None h d f = λ v. d refl 0 r (omega arith) v (λ k u. absurd (both_ways (on_of (tried task) 0 k) (none_on (place (tried task) k)) u))
+  where
+    none_on : (o : Option ℕ) → option_map_or (λ p. ltb p 0) o false ≡ false
+    none_on None = refl
+    none_on (Some p) = le-ltb p 0 (omega arith)

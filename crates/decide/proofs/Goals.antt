@@ -14,7 +14,7 @@ use Rattle.list.specs.Lists.{Line, Row}
 use Rattle.decide.specs.Deciding.{gives, shows, deciding, cells_in_lines, conds_in_lines}
 use Rattle.decide.specs.Cones.{Coned}
 use Rattle.decide.specs.Counting.{Rising}
-use Rattle.decide.specs.Lanes.{goal_of}
+use Rattle.decide.specs.Goals.{goal_of}
 use Rattle.decide.specs.Noting.{gap_noted, numbers_noted}
 use Rattle.decide.specs.Reaching.{Covers}
 use Rattle.decide.specs.Standing.{named_cells, standing, Decided}

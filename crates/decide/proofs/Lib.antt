@@ -4,7 +4,6 @@ pub mod Settled
 pub mod Coverage
 pub mod Reached
 pub mod Counted
-pub mod Listing
 pub mod Rising
 pub mod Noted
 pub mod Agreeing
@@ -20,11 +19,10 @@ pub mod Mights
 pub mod Steps
 pub mod Bits64
 pub mod Fours
-pub mod Columns256
-pub mod Values
-pub mod Gathering
-pub mod Spreading
+pub mod Listing
 pub mod Pools
+pub mod Spreading
+pub mod Gathering
 pub mod Telling
 pub mod Drawn
 pub mod Goals

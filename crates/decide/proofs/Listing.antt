@@ -1,114 +1,141 @@
--- One gap more among those that are tried.
-use Rattle.std.proofs.Common.{◌≡◌, ℕ, zero, suc, ◌+◌, ◌<◌, ◌≤◌, Bool, cond as if, ◌||◌, eqb, ltb, ◌≢◌, ◌⊎◌, List, length, get_or, set, replicate, sym, refl, ap, ◌∙◌, inl, inr, arith, get_or-set_other, get_or-set_same, below_more}
-use Rattle.std.proofs.lemmas.Bool.{cases_eq, cases_lt, eq-eqb, ne_eqb, lt-ltb, le-ltb}
+-- Where the gaps stand that are tried, and one that is settled more.
+use Rattle.std.proofs.Common.{◌≡◌, ◌≢◌, ℕ, suc, ◌+◌, ◌<◌, ◌≤◌, Bool, true, false, cond as if, ◌||◌, eqb, ltb, ◌⊎◌, List, [], ◌∷◌, ◌++◌, length, get_or, Some, None, Option, sym, refl, ap, ◌∙◌, subst, inl, inr, arith, below_more, length-append}
+use Rattle.std.specs.List.{All, AllPairs, position_or_len, list_any}
+use Rattle.std.specs.Option.{option_map_or}
+use Rattle.std.proofs.lemmas.Bool.{both_ways, cases_eq, eq-eqb, ne_eqb, eqb-true, lt-ltb, le-ltb, or_cases}
+use Rattle.std.proofs.lemmas.Bool.Decides.{nat_tests}
+use Rattle.std.proofs.lemmas.List.{get_or_default}
+use Rattle.std.proofs.lemmas.List.Elements.{All-nil, All-push}
+use Rattle.std.proofs.lemmas.List.Quantifiers.{position-Some, all_pairs_push}
+use Rattle.std.proofs.lemmas.List.Sums.{position_or_len_is}
+use Rattle.condition.specs.Cond.{has, Within}
+use Rattle.condition.proofs.Lists.{has_none, has_cons, has_head, has_left, has_right, has_at}
 use Rattle.evaluate.specs.Filling.{Filling, put}
 use Rattle.decide.specs.Might.{put_on}
-use Rattle.decide.specs.Rows.{name, place, Placed, Listed, on_of, number_at, filling_of}
-use Rattle.decide.specs.declared.gaps.Gaps.{Gaps}
+use Rattle.decide.specs.Rows.{place, on_of, number_at, GoesOn, filling_of}
 use Rattle.decide.specs.declared.rows.Row.{Row}
 
--- it stands there already
-pub listed_still : (ks : List ℕ) (n : ℕ) (g : Gaps) → place g (get_or ks n 0) < g.count → Listed ks n g → Listed ks (n + 1) g
-listed_still ks n g h l = record { few = omega (arith, l.few); placed = l.placed; all = below_more _ _ l.all h }
+-- what a slice contains is what its list has
+pub has_any : (xs : List ℕ) (n : ℕ) → list_any (λ y. eqb y n) xs ≡ has xs n
+unfolding has
+has_any [] n = refl
+has_any (x ∷ xs) n = ap (λ (b : Bool). eqb x n || b) (has_any xs n)
 
--- it is put at the end
-module _ (ks : List ℕ) (n : ℕ) (g : Gaps) (x : ℕ) (is : get_or ks n 0 ≡ x) (l : Listed ks n g) (new : g.count ≤ place g x) (low : x < 64) (few : g.count < 6)
-    (room : g.count < length g.names) (space : x < length g.places) where
-  abbrev more : Gaps
-  more = record { names = set g.names g.count x; places = set g.places x g.count; count = g.count + 1 }
+-- what stands in a list stands at some place of it
+pub found_at : (xs : List ℕ) (x : ℕ) → has xs x ≡ true → (j : ℕ) × (j < length xs) × (get_or xs j 0 ≡ x)
+found_at [] x h = absurd (has_none x h)
+found_at (y ∷ xs) x h = go (found_at xs x) (or_cases (eqb y x) (has xs x) (sym (has_cons y xs x) ∙ h))
+  where
+    go : (has xs x ≡ true → (j : ℕ) × (j < length xs) × (get_or xs j 0 ≡ x)) → (eqb y x ≡ true) ⊎ (has xs x ≡ true) → (j : ℕ) × (j < suc (length xs)) × (get_or (y ∷ xs) j 0 ≡ x)
+    go ih (inl e) = (0, omega arith, eqb-true y x e)
+    go ih (inr u) = let f : (j : ℕ) × (j < length xs) × (get_or xs j 0 ≡ x) = ih u in (suc f.0, omega (arith, f.1), f.2)
 
-  here : place more x ≡ g.count
-  here = get_or-set_same g.places x g.count 6 space
+abbrev pub Distinct : List ℕ → Type 0
+Distinct = AllPairs (λ j k. j ≢ k)
 
-  there_here : name more g.count ≡ x
-  there_here = get_or-set_same g.names g.count x 0 room
+-- at its place a gap stands
+pub place_back : (gs : List ℕ) (k p : ℕ) → place gs k ≡ Some p → (p < length gs) × (get_or gs p 0 ≡ k)
+unfolding place
+place_back gs k p e = let s = position-Some (λ g. eqb g k) gs p 0 e in (s.0, eqb-true (get_or gs p 0) k s.1)
 
-  other_name : (p : ℕ) → p < g.count → name more p ≡ name g p
-  other_name p h = let ne : p ≢ g.count = omega arith in rw get_or-set_other
+-- and where each stands once, it is the place of what stands there
+pub place_at : (gs : List ℕ) → Distinct gs → (p : ℕ) → p < length gs → place gs (get_or gs p 0) ≡ Some p
+unfolding place
+place_at gs d p h =
+    let e : position_or_len (λ g. eqb g (get_or gs p 0)) gs ≡ p =
+    position_or_len_is (λ g. eqb g (get_or gs p 0)) gs p 0 (omega arith) (λ k l. ne_eqb (get_or gs k 0) (get_or gs p 0) (d k p 0 l h)) (λ _. eq-eqb (get_or gs p 0) (get_or gs p 0) refl) in
+    rw e (rw (lt-ltb p (length gs) h) refl)
 
-  other_place : (k : ℕ) → k ≢ x → place more k ≡ place g k
-  other_place k ne = rw get_or-set_other
+-- each of them has a place
+pub has_place : (gs : List ℕ) → Distinct gs → (k : ℕ) → has gs k ≡ true → (p : ℕ) × (p < length gs) × (place gs k ≡ Some p)
+has_place gs d k h = let f = found_at gs k h in (f.0, f.1, ap (place gs) (sym f.2) ∙ place_at gs d f.0 f.1)
 
-  not_x : (p : ℕ) → p < g.count → name g p ≢ x
-  not_x p h e = omega (arith, l.placed.there p h, ap (place g) e)
+-- the first n of a list of gaps, each once
+pub record Collected (ks : List ℕ) (n : ℕ) (ns : List ℕ) : Type 0 where
+  pub few : length ns ≤ n
+  pub low : All (λ k. k < 64) ns
+  pub distinct : Distinct ns
+  pub all : (i : ℕ) → i < n → has ns (get_or ks i 0) ≡ true
 
-  -- what is given a place has it from before, or is x
-  which : (k : ℕ) → place more k < 6 → ((k ≡ x) × (place more k ≡ g.count)) ⊎ ((k ≢ x) × (place more k ≡ place g k) × (place g k < g.count))
-  which k h = by (cases_eq k x)
-    where
-      by : (k ≡ x) ⊎ (k ≡ x → ⊥) → ((k ≡ x) × (place more k ≡ g.count)) ⊎ ((k ≢ x) × (place more k ≡ place g k) × (place g k < g.count))
-      by (inl e) = inl (e, ap (place more) e ∙ here)
-      by (inr d) = inr (d, other_place k d, l.placed.given k (omega (arith, other_place k d)))
+pub none_collected : (ks : List ℕ) → Collected ks 0 []
+none_collected ks = record { few = omega arith; low = All-nil (λ k. k < 64); distinct = λ i j d l m. absurd (omega arith); all = λ i l. absurd (omega arith) }
 
-  back_more : (k : ℕ) → place more k < g.count + 1 → name more (place more k) ≡ k
-  back_more k h = elim (which k (omega arith)) [
-    | inl p ↦ ap (name more) p.1 ∙ (there_here ∙ sym p.0)
-    | inr p ↦ ap (name more) p.1 ∙ (other_name (place g k) p.2 ∙ l.placed.back k p.2)
-  ]
+module _ (ks : List ℕ) (n : ℕ) (ns : List ℕ) (c : Collected ks n ns) where
+  pub collected_still : has ns (get_or ks n 0) ≡ true → Collected ks (n + 1) ns
+  collected_still h = record { few = omega (arith, c.few); low = c.low; distinct = c.distinct; all = below_more _ _ c.all h }
 
-  given_more : (k : ℕ) → place more k < 6 → place more k < g.count + 1
-  given_more k h = elim (which k h) [
-    | inl p ↦ omega (arith, p.1)
-    | inr p ↦ omega (arith, p.1, p.2)
-  ]
-
-  still : (k : ℕ) → place g k < g.count → place more k < g.count + 1
-  still k h = elim (cases_eq k x) [
-    | inl e ↦ omega (arith, ap (place more) e, here)
-    | inr d ↦ omega (arith, other_place k d)
-  ]
-
-  pub listed_more : Listed ks (n + 1) more
-  listed_more = record {
-    few = omega (arith, l.few);
-    placed = record {
-      low = below_more _ _ (λ p h. rw (other_name p h) (l.placed.low p h)) (rw there_here low);
-      there = below_more _ _ (λ p h. rw (other_name p h) (other_place (name g p) (not_x p h) ∙ l.placed.there p h)) (rw there_here here);
-      back = back_more;
-      given = given_more;
-    };
-    all = below_more _ _ (λ i h. still (get_or ks i 0) (l.all i h)) (rw is (omega (arith, here)));
+  pub collected_more : get_or ks n 0 < 64 → has ns (get_or ks n 0) ≡ false → Collected ks (n + 1) (ns ++ get_or ks n 0 ∷ [])
+  collected_more l h = record {
+    few = simp length-append (omega (arith, c.few));
+    low = All-push (λ k. k < 64) ns (get_or ks n 0) c.low l;
+    distinct = all_pairs_push (λ j k. j ≢ k) ns (get_or ks n 0) c.distinct (λ k d m e. both_ways (has ns (get_or ks n 0)) h (ap (has ns) (sym e ∙ get_or_default ns k d 0 m) ∙ has_at ns k m));
+    all = below_more _ _ (λ i m. has_left ns (get_or ks n 0 ∷ []) (get_or ks i 0) (c.all i m)) (has_right ns (get_or ks n 0 ∷ []) (get_or ks n 0) (has_head (get_or ks n 0) []));
   }
 
--- none is listed yet
-pub none_listed : (ks ns ps : List ℕ) → ((k : ℕ) → get_or ps k 6 ≡ 6) → Listed ks 0 (record { names = ns; places = ps; count = 0 })
-none_listed ks ns ps h = record {
-  few = omega arith;
-  placed = record { low = λ p l. absurd (omega arith); there = λ p l. absurd (omega arith); back = λ k l. absurd (omega arith); given = λ k l. omega (arith, h k) };
-  all = λ i l. absurd (omega arith);
-}
+-- all of a list are collected
+pub collected_within : (ks ns : List ℕ) → Collected ks (length ks) ns → Within ks ns
+unfolding Within
+collected_within ks ns c k h = let f = found_at ks k h in subst (λ (x : ℕ). has ns x ≡ true) f.2 (c.all f.0 f.1)
 
-pub same_number : (n a k : ℕ) → ◌≡◌ {A = ℕ} (get_or (replicate n a) k a) a
-same_number zero a k = refl
-same_number (suc n) a zero = refl
-same_number (suc n) a (suc k) = same_number n a k
+same_below : (k l : ℕ) → (k ≡ l → ⊥) → ltb k l ≡ ltb k (l + 1)
+same_below k l d = grind (arith, nat_tests)
+
+-- the filling of a row as far as its first p gaps: others have 0
+module _ (gs : List ℕ) (r : Row) where
+  abbrev pub upto : ℕ → Filling
+  upto p k = option_map_or (λ q. if (ltb q p) (number_at r q) 0) (place gs k) 0
+
+  pub upto_none : (k : ℕ) → upto 0 k ≡ 0
+  upto_none k = go (place gs k)
+    where
+      go : (o : Option ℕ) → option_map_or (λ q. if (ltb q 0) (number_at r q) 0) o 0 ≡ 0
+      go None = refl
+      go (Some q) = rw (le-ltb q 0 (omega arith)) refl
+
+  pub upto_all : (k : ℕ) → upto (length gs) k ≡ filling_of gs r k
+  upto_all k = go (place gs k) refl
+    where
+      go : (o : Option ℕ) → place gs k ≡ o → option_map_or (λ q. if (ltb q (length gs)) (number_at r q) 0) o 0 ≡ option_map_or (number_at r) o 0
+      go None e = refl
+      go (Some q) e = rw (lt-ltb q (length gs) (place_back gs k q e).0) refl
+
+  pub upto_more : Distinct gs → (p : ℕ) → p < length gs → (k x : ℕ) → x ≡ upto p k → if (eqb k (get_or gs p 0)) (number_at r p) x ≡ upto (p + 1) k
+  upto_more d p h k x e = go (place gs k) refl (cases_eq k (get_or gs p 0))
+    where
+      go : (o : Option ℕ) → place gs k ≡ o → (k ≡ get_or gs p 0) ⊎ (k ≡ get_or gs p 0 → ⊥) → if (eqb k (get_or gs p 0)) (number_at r p) x ≡ option_map_or (λ q. if (ltb q (p + 1)) (number_at r q) 0) o 0
+      go o i (inl u) =
+          let at : o ≡ Some p = sym i ∙ (ap (place gs) u ∙ place_at gs d p h) in
+          rw (at, eq-eqb k (get_or gs p 0) u, lt-ltb p (p + 1) (omega arith)) refl
+      go None i (inr n) = rw (ne_eqb k (get_or gs p 0) n) (rw i at e)
+      go (Some q) i (inr n) =
+          let apart : q ≢ p = λ u. n (sym (place_back gs k q i).1 ∙ ap (λ j. get_or gs j 0) u) in
+          rw (ne_eqb k (get_or gs p 0) n, ← same_below q p apart) (rw i at e)
 
 -- one gap more is settled
-pub on_more : (g : Gaps) → Placed g → (d : ℕ) → d < g.count → (k : ℕ) → on_of g (d + 1) k ≡ put_on (on_of g d) (name g d) k
-on_more g l d h k = by (cases_eq k (name g d))
-  where
-    by : (k ≡ name g d) ⊎ (k ≡ name g d → ⊥) → ltb (place g k) (d + 1) ≡ (eqb k (name g d) || ltb (place g k) d)
-    by (inl e) = rw (eq-eqb k (name g d) e) (lt-ltb (place g k) (d + 1) (omega (arith, ap (place g) e, l.there d h)))
-    by (inr ne) = rw (ne_eqb k (name g d) ne) (same (cases_lt (place g k) d))
-      where
-        apart : place g k ≡ d → ⊥
-        apart e = ne (sym (l.back k (omega arith)) ∙ ap (name g) e)
+module _ (gs : List ℕ) (once : Distinct gs) (d : ℕ) (h : d < length gs) where
+  -- it has the place d, and no other gap has
+  which : (k : ℕ) (o : Option ℕ) → place gs k ≡ o → ((k ≡ get_or gs d 0) × (o ≡ Some d)) ⊎ ((k ≢ get_or gs d 0) × ((q : ℕ) → o ≡ Some q → q ≢ d))
+  which k o i = by (cases_eq k (get_or gs d 0))
+    where
+      by : (k ≡ get_or gs d 0) ⊎ (k ≡ get_or gs d 0 → ⊥) → ((k ≡ get_or gs d 0) × (o ≡ Some d)) ⊎ ((k ≢ get_or gs d 0) × ((q : ℕ) → o ≡ Some q → q ≢ d))
+      by (inl u) = inl (u, sym i ∙ (ap (place gs) u ∙ place_at gs once d h))
+      by (inr n) = inr (n, λ q e u. n (sym (place_back gs k q (i ∙ e)).1 ∙ ap (λ j. get_or gs j 0) u))
 
-        same : (place g k < d) ⊎ (d ≤ place g k) → ltb (place g k) (d + 1) ≡ ltb (place g k) d
-        same (inl u) = lt-ltb (place g k) (d + 1) (omega arith) ∙ sym (lt-ltb (place g k) d u)
-        same (inr u) = le-ltb (place g k) (d + 1) (omega (arith, apart)) ∙ sym (le-ltb (place g k) d u)
+  pub on_more : (k : ℕ) → on_of gs (d + 1) k ≡ put_on (on_of gs d) (get_or gs d 0) k
+  on_more k = go (place gs k) (which k (place gs k) refl)
+    where
+      go : (o : Option ℕ) → ((k ≡ get_or gs d 0) × (o ≡ Some d)) ⊎ ((k ≢ get_or gs d 0) × ((q : ℕ) → o ≡ Some q → q ≢ d))
+          → option_map_or (λ q. ltb q (d + 1)) o false ≡ (eqb k (get_or gs d 0) || option_map_or (λ q. ltb q d) o false)
+      go o (inl u) = rw (u.1, eq-eqb k (get_or gs d 0) u.0, lt-ltb d (d + 1) (omega arith)) refl
+      go None (inr n) = rw (ne_eqb k (get_or gs d 0) n.0) refl
+      go (Some q) (inr n) = rw (ne_eqb k (get_or gs d 0) n.0) (sym (same_below q d (n.1 q refl)))
 
--- and has its number
-pub filling_more : (g : Gaps) → Placed g → (d : ℕ) → d < g.count → (r s : Row) (x : ℕ)
-    → ((p : ℕ) → number_at s p ≡ if (eqb p d) x (number_at r p)) → (k : ℕ) → filling_of g s k ≡ put (filling_of g r) (name g d) x k
-filling_more g l d h r s x e k = e (place g k) ∙ ap (λ (t : Bool). if t x (filling_of g r k)) (by (cases_eq k (name g d)))
-  where
-    by : (k ≡ name g d) ⊎ (k ≡ name g d → ⊥) → eqb (place g k) d ≡ eqb k (name g d)
-    by (inl u) = eq-eqb (place g k) d (ap (place g) u ∙ l.there d h) ∙ sym (eq-eqb k (name g d) u)
-    by (inr u) = ne_eqb (place g k) d (λ i. u (sym (l.back k (omega arith)) ∙ ap (name g) i)) ∙ sym (ne_eqb k (name g d) u)
-
--- one gap more has the number that it is to have
-pub put_more : (u v w : Filling) (i x : ℕ) → ((k : ℕ) → w k ≡ put v i x k) → x ≡ u i → ((k : ℕ) → k < i → v k ≡ u k) → (k : ℕ) → k < i + 1 → w k ≡ u k
-put_more u v w i x e here below = below_more _ _
-    (λ k h. let ne : k ≢ i = omega arith in e k ∙ rw (ne_eqb k i ne) (below k h))
-    (e i ∙ rw (eq-eqb i i refl) here)
+  -- and has its number
+  pub filling_more : (r s : Row) (x u : ℕ) → GoesOn r d x u s → (k : ℕ) → filling_of gs s k ≡ put (filling_of gs r) (get_or gs d 0) x k
+  filling_more r s x u g k = go (place gs k) (which k (place gs k) refl)
+    where
+      go : (o : Option ℕ) → ((k ≡ get_or gs d 0) × (o ≡ Some d)) ⊎ ((k ≢ get_or gs d 0) × ((q : ℕ) → o ≡ Some q → q ≢ d))
+          → option_map_or (number_at s) o 0 ≡ if (eqb k (get_or gs d 0)) x (option_map_or (number_at r) o 0)
+      go o (inl v) = rw (v.1, eq-eqb k (get_or gs d 0) v.0) (g.numbers d ∙ rw (eq-eqb d d refl) refl)
+      go None (inr n) = rw (ne_eqb k (get_or gs d 0) n.0) refl
+      go (Some q) (inr n) = rw (ne_eqb k (get_or gs d 0) n.0) (g.numbers q ∙ rw (ne_eqb q d (n.1 q refl)) refl)

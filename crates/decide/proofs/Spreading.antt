@@ -1,19 +1,27 @@
 -- One row more of those that go on from a row.
-use Rattle.std.proofs.Common.{◌≡◌, ℕ, ◌+◌, ◌<◌, cond as if, eqb, ltb, ◌≢◌, List, length, get_or, set, ◌∙◌, arith, get_or-set_other, get_or-set_same, below_more}
-use Rattle.decide.specs.Rows.{number_at, blank}
+use Rattle.std.proofs.Common.{◌≡◌, ℕ, ◌+◌, ◌<◌, cond as if, ltb, List, [], ◌∷◌, ◌++◌, length, get_or, sym, refl, ap, ◌∙◌, arith, append_assoc, append-nil, length-append, below_more}
+use Rattle.std.proofs.Math.Seq.{get_or-append_seam}
+use Rattle.std.proofs.lemmas.List.{get_or_append_left}
+use Rattle.decide.specs.Rows.{GoesOn, blank}
 use Rattle.decide.specs.declared.rows.Row.{Row}
 
-module _ (next₀ : List Row) (pool : List ℕ) (r : Row) (depth n count : ℕ) where
-  abbrev Spread : List Row → ℕ → Type 0
-  Spread next k =
-      ((p : ℕ) → p < count → get_or next p blank ≡ get_or next₀ p blank)
-      × ((i : ℕ) → i < k → (p : ℕ) → number_at (get_or next (count + i) blank) p ≡ if (eqb p depth) (get_or pool i 0) (number_at r p))
-      × ((i : ℕ) → i < k → (get_or next (count + i) blank).used ≡ if (ltb i n) r.used (r.used + 1))
+module _ (pool : List ℕ) (r : Row) (depth n : ℕ) (next : List Row) where
+  -- behind the others stand those with the first k numbers of the pool, of which n are named or in use
+  pub record Spread (k : ℕ) (next₁ : List Row) : Type 0 where
+    pub added : List Row
+    pub behind : next₁ ≡ next ++ added
+    pub many : length added ≡ k
+    pub each : (i : ℕ) → i < k → GoesOn r depth (get_or pool i 0) (if (ltb i n) r.used (r.used + 1)) (get_or added i blank)
 
-  pub spread_step : (next : List Row) (k : ℕ) (s : Row) (used : ℕ) → count + k < length next → Spread next k
-      → ((p : ℕ) → number_at s p ≡ if (eqb p depth) (get_or pool k 0) (number_at r p)) → s.used ≡ used → used ≡ if (ltb k n) r.used (r.used + 1) → Spread (set next (count + k) s) (k + 1)
-  spread_step next k s used h b e f g = (
-    λ p l. let ne : p ≢ count + k = omega arith in rw get_or-set_other (b.0 p l),
-    below_more _ _ (λ i l. let ne : count + i ≢ count + k = omega arith in λ p. rw get_or-set_other (b.1 i l p)) (λ p. rw get_or-set_same (e p)),
-    below_more _ _ (λ i l. let ne : count + i ≢ count + k = omega arith in rw get_or-set_other (b.2 i l)) (rw get_or-set_same (f ∙ g)),
-  )
+  pub none_spread : Spread 0 next
+  none_spread = record { added = []; behind = sym (append-nil next); many = refl; each = λ i l. absurd (omega arith) }
+
+  pub spread_more : (k : ℕ) (next₁ : List Row) (s : Row) → Spread k next₁ → GoesOn r depth (get_or pool k 0) (if (ltb k n) r.used (r.used + 1)) s → Spread (k + 1) (next₁ ++ s ∷ [])
+  spread_more k next₁ s p g = record {
+    added = p.added ++ s ∷ [];
+    behind = ap (λ (rows : List Row). rows ++ s ∷ []) p.behind ∙ append_assoc next p.added (s ∷ []);
+    many = simp length-append (omega (arith, p.many));
+    each = below_more _ _
+        (λ i l. rw (get_or_append_left p.added (s ∷ []) blank i (omega (arith, p.many))) (p.each i l))
+        (rw (← p.many) (rw (get_or-append_seam p.added s [] blank, p.many) g));
+  }

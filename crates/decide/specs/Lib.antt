@@ -9,7 +9,10 @@ pub mod Folding
 pub mod Showing
 pub mod Might
 pub mod Bit
+pub mod Sides
 pub mod Rows
+pub mod Columns
+pub mod Goals
 pub mod Lanes
 pub mod Search
 pub mod Trying

@@ -2,17 +2,13 @@
 --
 --   Tried c o            a filling that meets c; or none, and then none of all fillings does
 --   Names c ks ns        ks has the gaps that c names, all below 64, and ns its numbers
---   LeastOther ns n     n is the least number that is none of ns
---   FilledRow g r o     the filling of a row, if there is one
+--   LeastOther ns n      n is the least number that is none of ns
 use Rattle.std.specs.Prelude.{◌≡◌, ℕ, ◌<◌, true, false, List, length, Some, None, Option, slice_index}
 use Rattle.condition.specs.Cond.{Cond, numbers, gaps, has, Within}
 use Rattle.evaluate.specs.Filling as fillings
 use Rattle.evaluate.specs.Filling.{holds}
 use Rattle.evaluate.specs.Shapes.{numbers_of}
 use Rattle.evaluate.specs.declared.Filling.{Filling}
-use Rattle.decide.specs.Rows.{filling_of}
-use Rattle.decide.specs.declared.gaps.Gaps.{Gaps}
-use Rattle.decide.specs.declared.rows.Row.{Row}
 
 abbrev pub Tried : Cond → Option Filling → Type 0
 Tried c (Some w) = holds (numbers_of w) c ≡ true
@@ -26,9 +22,3 @@ pub record Names (c : Cond) (ks ns : List ℕ) : Type 0 where
 pub record LeastOther (ns : List ℕ) (n : ℕ) : Type 0 where
   pub new : has ns n ≡ false
   pub least : (m : ℕ) → m < n → has ns m ≡ true
-
-abbrev pub FilledRow : Gaps → Option Row → Option Filling → Type 0
-FilledRow g (Some r) (Some w) = (k : ℕ) → k < 64 → numbers_of w k ≡ filling_of g r k
-FilledRow g (Some r) None = ⊥
-FilledRow g None (Some w) = ⊥
-FilledRow g None None = Unit {0}

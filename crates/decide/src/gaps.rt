@@ -1,56 +1,42 @@
 // The gaps that are tried, each with its place.
-ghost use Rattle.std.specs.Prelude.{◌≡◌, ℕ, ◌+◌, ◌<◌, ◌≤◌, List, length, slice_index};
-ghost use Rattle.decide.specs.Rows.{place, Listed};
+ghost use Rattle.std.specs.Prelude.{◌≡◌, ◌≢◌, ℕ, ◌<◌, ◌≤◌, All, AllPairs, length, slice_index};
 
-// Gaps in the order in which they are settled, and the place of each; 6 is the place of none.
-#[derive(Clone, Copy)]
+use arrayvec::ArrayVec;
+
+// Gaps in the order in which they are settled, each once.
+#[derive(Drop)]
 pub(crate) struct Gaps {
-    pub(crate) names: [u64; 6],
-    pub(crate) places: [usize; 64],
-    pub(crate) count: usize,
+    pub(crate) names: ArrayVec<u64, 6>,
+    ghost few: { length names.items ≤ 6 },
+    ghost low: { All (λ k. k < 64) names.items },
+    ghost distinct: { AllPairs (λ j k. j ≢ k) names.items },
 }
 
 impl Gaps {
+    ghost use Rattle.condition.specs.Cond.{Within};
+    ghost use Rattle.decide.specs.Rows.{place};
+
     // The gaps of a list, each once.
     pub(crate) fn listed(gaps: &[u64]) -> Gaps
         requires few { length gaps.now ≤ 6 }
         requires low { (i : ℕ) → i < length gaps.now → slice_index gaps.now i < 64 }
-        ensures { Listed gaps.now (length gaps.now) result }
+        ensures few { length result.names.items ≤ length gaps.now }
+        ensures all { Within gaps.now result.names.items }
     {
-        let mut listed = Gaps {
-            names: [0; 6],
-            places: [6; 64],
-            count: 0,
-        };
-        for i in 0..gaps.len() {
-            listed = listed.with(gaps[i]);
+        let mut names = ArrayVec::new();
+        for gap in gaps {
+            if !names.contains(gap) {
+                names.push(*gap);
+            }
         }
-        listed
+        Gaps { names }
     }
 
-    // One gap more, unless it is listed.
-    fn with(self, gap: u64) -> Gaps
-        requires { (gap < 64) × (self.count < 6) }
-        ensures { (ks : List ℕ) (n : ℕ) → slice_index ks n ≡ gap → Listed ks n self → Listed ks (n + 1) result }
+    // The place of a gap, if it is tried.
+    #[tactic(auto, unfolding(crate::specs::Rows::place))]
+    pub(crate) fn place(&self, gap: u64) -> Option<usize>
+        ensures { result ≡ place self.now.names.items gap }
     {
-        if self.places[gap as usize] < self.count {
-            return self;
-        }
-        let mut listed = self;
-        listed.names[self.count] = gap;
-        listed.places[gap as usize] = self.count;
-        listed.count = self.count + 1;
-        listed
-    }
-
-    // The place of a gap.
-    pub(crate) fn place(&self, gap: u64) -> usize
-        ensures { result ≡ place self.now gap }
-    {
-        if gap < 64 {
-            self.places[gap as usize]
-        } else {
-            6
-        }
+        self.names.iter().position(|name| *name == gap)
     }
 }

@@ -1,215 +1,159 @@
-// What the nodes of a store might still be, in each lane.
-ghost use Rattle.std.specs.Prelude.{◌≡◌, ℕ, ◌+◌, ◌*◌, ◌<◌, ◌≤◌, Bool, true, not, List, length};
-ghost use Rattle.condition.specs.Cond.{known, gap};
+// What conditions might still be, in each lane.
+#![tactic(auto, unfolding(crate::specs::Might::might))]
+
+ghost use Rattle.std.specs.Prelude.{◌≡◌, ℕ, ◌+◌, ◌*◌, ◌<◌, ◌≤◌, Bool, true, false, length, MatchOption, Some};
+ghost use Rattle.condition.specs.Cond.{known, gap, equal};
 ghost use Rattle.condition.specs.Store.{count, cond_at};
-ghost use Rattle.condition.specs.Shapes.{cell_of};
+ghost use Rattle.evaluate.specs.Senses.{ComeTo};
 ghost use Rattle.decide.specs.Bit.{lane};
-ghost use Rattle.decide.specs.Might.{tell, meet, might_equal, might};
-ghost use Rattle.decide.specs.Rows.{on_of, row};
-ghost use Rattle.decide.specs.Lanes.{rail, Ready, back, might_of, Worked, goal_of};
-ghost use Rattle.decide.specs.declared.rows.Row.{Row};
+ghost use Rattle.decide.specs.Might.{tell};
+ghost use Rattle.decide.specs.Sides.{side};
+ghost use Rattle.decide.specs.Rows.{place, on_of};
+ghost use Rattle.decide.specs.Lanes.{Tells, Meets};
 
 use crate::columns::Table;
+use crate::gaps::Gaps;
 use crate::rows::Row;
+use crate::sides::Sides;
 use crate::task::Task;
 use crate::words::Word;
-use condition::{Cell, Node, node_at};
+use condition::Cell;
+use evaluate::{Sense, work_out};
 
-// In which lanes a node can still hold, and in which it can still fail.
+// In which lanes a condition can hold, and in which it can fail.
+pub(crate) type Rails = Sides<Word>;
+
+// In which lanes both goals might still be met, where the rows have the gaps before `depth` settled: what is known with what is shown,
+// and with its contrary.
+pub(crate) fn might_meet(task: &Task, depth: usize, rows: &[Row], values: &mut [Rails]) -> Rails
+    requires room { count task.now.cone.now ≤ length values.old }
+    requires few { (length rows.now ≤ 256) × (depth ≤ 6) }
+    ensures { Meets task.now.gaps.names.items depth rows.now task.now.cone.now task.now.goal result }
+{
+    let lanes = Lanes {
+        gaps: &task.gaps,
+        table: Table::of(rows, depth, &task.pool[..task.named]),
+    };
+    work_out(task.cone, task.cone[0], &lanes, values);
+    let known = lanes.value_at(task.cone, task.goal.known, values);
+    let shows = lanes.value_at(task.cone, task.goal.shows, values);
+    Sides {
+        yes: known.yes & shows.yes,
+        no: known.yes & shows.no,
+    }
+}
+
+// Rows, one in each lane, and the gaps whose numbers they have.
 #[derive(Clone, Copy)]
-pub(crate) struct Rails {
-    pub(crate) can: Word,
-    pub(crate) fail: Word,
+struct Lanes<'a> {
+    gaps: &'a Gaps,
+    table: Table<'a>,
 }
 
-impl Rails {
-    // It holds, or fails, in every lane.
-    pub(crate) fn sure(holds: bool) -> Rails
-        ensures { (l : ℕ) → l < 256 → (t : Bool) → lane l (rail t result) ≡ tell t holds }
-    {
-        if holds {
-            Rails {
-                can: Word::all(),
-                fail: Word::none(),
+// A condition might still be this or that in each lane.
+impl Sense for Lanes<'_> {
+    type Value = Rails;
+
+    ghost means = { Tells };
+
+    fn constant(&self, holds: bool) -> Rails {
+        settled(Word::same(holds))
+    }
+
+    fn equal(&self, a: Cell, b: Cell) -> Rails {
+        match (a, b) {
+            (Cell::Number(m), Cell::Number(n)) => self.constant(m == n),
+            (Cell::Gap(k), Cell::Number(n)) | (Cell::Number(n), Cell::Gap(k)) => {
+                self.equal_number(k, n)
             }
+            (Cell::Gap(j), Cell::Gap(k)) => self.equal_gap(j, k),
+        }
+    }
+
+    fn not(&self, x: Rails) -> Rails {
+        Sides {
+            yes: x.no,
+            no: x.yes,
+        }
+    }
+
+    fn both(&self, x: Rails, y: Rails) -> Rails {
+        Sides {
+            yes: x.yes & y.yes,
+            no: x.no | y.no,
+        }
+    }
+
+    fn either(&self, x: Rails, y: Rails) -> Rails {
+        Sides {
+            yes: x.yes | y.yes,
+            no: x.no & y.no,
+        }
+    }
+}
+
+impl Lanes<'_> {
+    // Whether a gap might have a number.
+    fn equal_number(&self, k: u64, n: u64) -> Rails
+        ensures { Tells self.now result (equal (gap k) (known n)) }
+    {
+        match self.settled_place(k) {
+            Some(p) => settled(self.table.number(p, n)),
+            None => open(),
+        }
+    }
+
+    // Whether two gaps might have the same number.
+    fn equal_gap(&self, j: u64, k: u64) -> Rails
+        ensures { Tells self.now result (equal (gap j) (gap k)) }
+    {
+        if j == k {
+            return self.constant(true);
+        }
+        match (self.settled_place(j), self.settled_place(k)) {
+            (Some(p), Some(q)) => settled(self.table.pair(p, q)),
+            _ => open(),
+        }
+    }
+
+    // The place of a gap, if it is settled.
+    fn settled_place(&self, k: u64) -> Option<usize>
+        ensures { MatchOption result (on_of self.now.gaps.now.names.items self.now.table.depth k ≡ false) (λ p. (p < self.now.table.depth) × (place self.now.gaps.now.names.items k ≡ Some p)) }
+    {
+        let place = self.gaps.place(k)?;
+        (place < self.table.depth).then_some(place)
+    }
+
+    // What the condition at a place of a store might be, once its nodes are worked out; one that does not stand is never.
+    fn value_at(&self, nodes: &[u64], place: u64, values: &[Rails]) -> Rails
+        requires store { (1 ≤ length nodes.now) × (count nodes.now ≤ length values.now) }
+        requires worked { ComeTo (Tells self.now) nodes.now (count nodes.now) values.now }
+        ensures { Tells self.now result (cond_at nodes.now place) }
+    {
+        if place < nodes[0] {
+            values[place as usize]
         } else {
-            Rails {
-                can: Word::none(),
-                fail: Word::all(),
-            }
-        }
-    }
-
-    // It can hold and it can fail in every lane.
-    fn open() -> Rails
-        ensures { (l : ℕ) → l < 256 → (t : Bool) → lane l (rail t result) ≡ true }
-    {
-        Rails {
-            can: Word::all(),
-            fail: Word::all(),
-        }
-    }
-
-    // It holds in the lanes that say so, and fails in the others.
-    fn settled(word: Word) -> Rails
-        ensures { (l : ℕ) → l < 256 → (t : Bool) → lane l (rail t result) ≡ tell t (lane l word) }
-    {
-        Rails {
-            can: word,
-            fail: word.flip(),
-        }
-    }
-
-    // The contrary.
-    fn not(self) -> Rails
-        ensures { (l : ℕ) (t : Bool) → lane l (rail t result) ≡ lane l (rail (not t) self) }
-    {
-        Rails {
-            can: self.fail,
-            fail: self.can,
-        }
-    }
-
-    // Both.
-    fn both(self, other: Rails) -> Rails
-        ensures { (l : ℕ) → l < 256 → (t : Bool) → lane l (rail t result) ≡ meet t (lane l (rail t self)) (lane l (rail t other)) }
-    {
-        Rails {
-            can: self.can.and(other.can),
-            fail: self.fail.or(other.fail),
-        }
-    }
-
-    // One of the two.
-    fn either(self, other: Rails) -> Rails
-        ensures { (l : ℕ) → l < 256 → (t : Bool) → lane l (rail t result) ≡ meet (not t) (lane l (rail t self)) (lane l (rail t other)) }
-    {
-        Rails {
-            can: self.can.or(other.can),
-            fail: self.fail.and(other.fail),
+            self.constant(false)
         }
     }
 }
 
-// In which lanes both goals might still be met: what is known with what is shown, and with its contrary.
-pub(crate) fn might_meet(
-    cone: &[u64],
-    task: &Task,
-    depth: usize,
-    rows: &[Row],
-    values: &mut [Rails],
-) -> Rails
-    requires store { (1 + 5 * count cone.now ≤ length cone.now) × (count cone.now ≤ length values.old) }
-    requires few { (length rows.now ≤ 256) × ((depth ≤ 6) × (task.now.named ≤ 8)) }
-    ensures { (l : ℕ) → l < length rows.now → (t : Bool) → lane l (rail t result) ≡ might (on_of task.now.gaps depth) (row task.now.gaps rows.now l) true (goal_of cone.now task.now.goal t) }
+// It holds in the lanes that say so, and fails in the others.
+fn settled(word: Word) -> Rails
+    ensures { (l : ℕ) → l < 256 → (t : Bool) → lane l (side t result) ≡ tell t (lane l word) }
 {
-    let n = cone[0] as usize;
-    let table = Table::of(rows, depth, &task.pool[..task.named]);
-    work_out(cone, n, task, depth, rows, &table, values);
-    let known = earlier(values, n, task.goal.known);
-    let shows = earlier(values, n, task.goal.shows);
-    Rails {
-        can: known.can.and(shows.can),
-        fail: known.can.and(shows.fail),
+    Sides {
+        yes: word,
+        no: !word,
     }
 }
 
-// What the first n nodes of a store might be, in one pass.
-fn work_out(
-    cone: &[u64],
-    n: usize,
-    task: &Task,
-    depth: usize,
-    rows: &[Row],
-    table: &Table,
-    values: &mut [Rails],
-)
-    requires stands { (n ≤ count cone.now) × ((1 + 5 * n ≤ length cone.now) × (n ≤ length values.old)) }
-    requires ready { Ready task.now depth rows.now table.now }
-    ensures { Worked task.now.gaps depth rows.now cone.now n values.new }
+// It can hold and it can fail in every lane.
+fn open() -> Rails
+    ensures { (l : ℕ) → l < 256 → (t : Bool) → lane l (side t result) ≡ true }
 {
-    for i in 0..n {
-        let node = node_at(cone, 1 + 5 * i);
-        let here = value(node, task, depth, rows, table, values, i);
-        values[i] = here;
-    }
-}
-
-// What node i might be, from what the nodes before it might.
-fn value(
-    node: Node,
-    task: &Task,
-    depth: usize,
-    rows: &[Row],
-    table: &Table,
-    values: &[Rails],
-    i: usize,
-) -> Rails
-    requires ready { Ready task.now depth rows.now table.now }
-    requires before { i ≤ length values.now }
-    ensures { (l : ℕ) → l < length rows.now → (t : Bool) → lane l (rail t result) ≡ might_of (on_of task.now.gaps depth) (row task.now.gaps rows.now l) node (back i values.now l) t }
-{
-    match node {
-        Node::Always => Rails::sure(true),
-        Node::Never => Rails::sure(false),
-        Node::Equal(a, b) => equal(a, b, task, depth, rows, table),
-        Node::Not(a) => earlier(values, i, a).not(),
-        Node::Both(a, b) => earlier(values, i, a).both(earlier(values, i, b)),
-        Node::Either(a, b) => earlier(values, i, a).either(earlier(values, i, b)),
-    }
-}
-
-// What an earlier node than i might be; another reads as never.
-fn earlier(values: &[Rails], i: usize, j: u64) -> Rails
-    requires { i ≤ length values.now }
-    ensures { (l : ℕ) → l < 256 → (t : Bool) → lane l (rail t result) ≡ back i values.now l t j }
-{
-    if j < i as u64 {
-        values[j as usize]
-    } else {
-        Rails::sure(false)
-    }
-}
-
-// Whether two cells might be equal.
-fn equal(a: Cell, b: Cell, task: &Task, depth: usize, rows: &[Row], table: &Table) -> Rails
-    requires ready { Ready task.now depth rows.now table.now }
-    ensures { (l : ℕ) → l < length rows.now → (t : Bool) → lane l (rail t result) ≡ might_equal (on_of task.now.gaps depth) (row task.now.gaps rows.now l) t (cell_of a) (cell_of b) }
-{
-    match (a, b) {
-        (Cell::Number(m), Cell::Number(n)) => Rails::sure(m == n),
-        (Cell::Gap(k), Cell::Number(n)) => equal_number(k, n, task, depth, rows, table),
-        (Cell::Number(n), Cell::Gap(k)) => equal_number(k, n, task, depth, rows, table),
-        (Cell::Gap(j), Cell::Gap(k)) => equal_gap(j, k, task, depth, rows, table),
-    }
-}
-
-// Whether a gap might have a number.
-fn equal_number(k: u64, n: u64, task: &Task, depth: usize, rows: &[Row], table: &Table) -> Rails
-    requires ready { Ready task.now depth rows.now table.now }
-    ensures { (l : ℕ) → l < length rows.now → (t : Bool) → lane l (rail t result) ≡ might_equal (on_of task.now.gaps depth) (row task.now.gaps rows.now l) t (gap k) (known n) }
-{
-    let place = task.gaps.place(k);
-    if place < depth {
-        Rails::settled(table.number(rows, depth, &task.pool[..task.named], place, n))
-    } else {
-        Rails::open()
-    }
-}
-
-// Whether two gaps might have the same number.
-fn equal_gap(j: u64, k: u64, task: &Task, depth: usize, rows: &[Row], table: &Table) -> Rails
-    requires ready { Ready task.now depth rows.now table.now }
-    ensures { (l : ℕ) → l < length rows.now → (t : Bool) → lane l (rail t result) ≡ might_equal (on_of task.now.gaps depth) (row task.now.gaps rows.now l) t (gap j) (gap k) }
-{
-    if j == k {
-        return Rails::sure(true);
-    }
-    let p = task.gaps.place(j);
-    let q = task.gaps.place(k);
-    if p < depth && q < depth {
-        Rails::settled(table.pair(p, q))
-    } else {
-        Rails::open()
+    Sides {
+        yes: Word::same(true),
+        no: Word::same(true),
     }
 }

@@ -6,7 +6,6 @@ ghost use Rattle.decide.specs.Standing.{standing, is_sure, is_possible};
 ghost use Rattle.decide.specs.Deciding.{ByCondition, DecidingEnough, SureByName, DecidedWithin64Bits};
 ghost use Rattle.decide.specs.Might.{MightSound, MightExact, FewSteps, LeastStep, LeastAll};
 
-mod bits;
 mod building;
 mod checking;
 mod columns;
@@ -24,6 +23,7 @@ mod rows;
 mod rowwise;
 mod search;
 mod showing;
+mod sides;
 mod simplifying;
 mod surveying;
 mod task;

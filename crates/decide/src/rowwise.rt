@@ -124,7 +124,7 @@ fn settle_row(
 {
     let cone = build_cone(heap, nodes, known, answer, n, row, marks)?;
     let count = cone.nodes[0] as usize;
-    let mut values = vec![in heap; Rails::sure(true); count]?;
+    let mut values = vec![in heap; Rails::default(); count]?;
     let found = try_all(
         cone.nodes.as_slice(),
         cone.goal,
@@ -132,5 +132,5 @@ fn settle_row(
         notes.numbers(),
         values.as_mut_slice(),
     );
-    Ok(Standing::of(found.shows.is_some(), found.lacks.is_some()))
+    Ok(Standing::of(found.yes.is_some(), found.no.is_some()))
 }

@@ -1,27 +1,25 @@
 // The search: rows of one depth, in chunks of up to 256.
-ghost use Rattle.std.specs.Prelude.{◌≡◌, ℕ, ◌+◌, ◌*◌, ◌<◌, ◌≤◌, Bool, false, ◌&&◌, length, is_some};
+ghost use Rattle.std.specs.Prelude.{◌≡◌, ℕ, ◌+◌, ◌<◌, ◌≤◌, Bool, ◌&&◌, All, length, is_some};
 ghost use Rattle.condition.specs.Store.{count};
-ghost use Rattle.decide.specs.Lanes.{rail};
-ghost use Rattle.decide.specs.Search.{SetUp, AllBegun, found, Sound, Searched, wanted, First, OrFirst, Extended};
+ghost use Rattle.decide.specs.Sides.{side};
+ghost use Rattle.decide.specs.Search.{tried, Begun, Sound, Searched, wanted, First, OrFirst, Extended};
 
 use crate::lanes::{Rails, might_meet};
 use crate::rows::Row;
+use crate::sides::Sides;
 use crate::task::Task;
 use crate::words::Word;
+use arrayvec::ArrayVec;
 
 // A row that meets what is known and what is shown, and one that meets what is known and not what is shown, as far as found.
-#[derive(Clone, Copy)]
-pub(crate) struct Met {
-    pub(crate) shows: Option<Row>,
-    pub(crate) lacks: Option<Row>,
-}
+pub(crate) type Met = Sides<Option<Row>>;
 
 impl Met {
     // Whether nothing is left to be found.
     fn is_whole(&self) -> bool
-        ensures { result ≡ (is_some self.now.shows && is_some self.now.lacks) }
+        ensures { result ≡ (is_some self.now.yes && is_some self.now.no) }
     {
-        self.shows.is_some() && self.lacks.is_some()
+        self.yes.is_some() && self.no.is_some()
     }
 
     // Whether something that is left might be found in a lane.
@@ -29,17 +27,17 @@ impl Met {
         requires { l < 256 }
         ensures { result ≡ wanted self.now lanes.now l }
     {
-        self.shows.is_none() && lanes.can.test(l) || self.lacks.is_none() && lanes.fail.test(l)
+        self.yes.is_none() && lanes.yes.test(l) || self.no.is_none() && lanes.no.test(l)
     }
 
     // What is left, from the first rows whose lanes say so.
     fn or_first(&self, lanes: &Rails, rows: &[Row]) -> Met
         requires { length rows.now ≤ 256 }
-        ensures { (t : Bool) → OrFirst (found t self.now) (rail t lanes.now) rows.now (found t result) }
+        ensures { (t : Bool) → OrFirst (side t self.now) (side t lanes.now) rows.now (side t result) }
     {
-        Met {
-            shows: or_first(self.shows, lanes.can, rows),
-            lacks: or_first(self.lacks, lanes.fail, rows),
+        Sides {
+            yes: self.yes.or_else(|| first(lanes.yes, rows)),
+            no: self.no.or_else(|| first(lanes.no, rows)),
         }
     }
 }
@@ -48,64 +46,48 @@ impl Met {
 //
 // A row goes on while it might meet a goal that has no row yet; with all gaps settled, what might meet a goal meets it.
 pub(crate) fn search(
-    cone: &[u64],
     task: &Task,
     depth: usize,
     rows: &[Row],
     values: &mut [Rails],
-    met: Met,
+    mut met: Met,
 ) -> Met
-    requires store { (1 + 5 * count cone.now ≤ length cone.now) × (count cone.now ≤ length values.old) }
-    requires few { (length rows.now ≤ 256) × (depth ≤ task.now.gaps.count) }
-    requires task { SetUp cone.now task.now }
-    requires begun { AllBegun task.now depth rows.now (length rows.now) }
-    requires sound { (t : Bool) → Sound cone.now task.now t (found t met) }
-    ensures { Searched cone.now task.now depth rows.now met result }
+    requires room { count task.now.cone.now ≤ length values.old }
+    requires few { (length rows.now ≤ 256) × (depth ≤ length (tried task.now)) }
+    requires begun { All (Begun task.now depth) rows.now }
+    requires sound { (t : Bool) → Sound task.now t (side t met) }
+    ensures { Searched task.now depth rows.now met result }
 {
-    if rows.len() == 0 || met.is_whole() {
+    if rows.is_empty() || met.is_whole() {
         return met;
     }
-    let lanes = might_meet(cone, task, depth, rows, values);
-    if depth == task.gaps.count {
+    let lanes = might_meet(task, depth, rows, values);
+    if depth == task.gaps.names.len() {
         return met.or_first(&lanes, rows);
     }
-    let mut met = met;
-    let mut next = [Row::zeros(); 256];
-    let mut count = 0;
-    for l in 0..rows.len() {
-        if count > 242 {
-            met = search(cone, task, depth + 1, &next[..count], values, met);
-            count = 0;
+    let mut next = ArrayVec::<Row, 256>::new();
+    for (l, row) in rows.iter().enumerate() {
+        if next.remaining_capacity() < 14 {
+            met = search(task, depth + 1, &next, values, met);
+            next.clear();
         }
         if met.wants(&lanes, l) {
-            count = extend(task, depth, rows[l], &mut next, count);
+            extend(task, depth, *row, &mut next);
         }
     }
-    search(cone, task, depth + 1, &next[..count], values, met)
+    search(task, depth + 1, &next, values, met)
 }
 
-// Puts the rows that go on from a row behind the first `count`, and tells how many there are then.
-fn extend(task: &Task, depth: usize, row: Row, next: &mut [Row], count: usize) -> usize
-    requires { (depth < 6) × ((task.now.named + row.used < 14) × (count + 14 ≤ length next.old)) }
-    ensures { Extended task.now depth row next.old count result next.new }
+// Puts the rows that go on from a row behind others.
+fn extend(task: &Task, depth: usize, row: Row, next: &mut ArrayVec<Row, 256>)
+    requires { (depth < 6) × ((task.now.named + row.used < length task.now.pool.items) × (length next.old.items + 14 ≤ 256)) }
+    ensures { Extended task.now depth row next.old.items next.new.items }
 {
-    let n = task.named + row.used;
-    for k in 0..n + 1 {
-        let used = if k < n { row.used } else { row.used + 1 };
-        next[count + k] = row.with(depth, task.pool[k], used);
+    let (known, fresh) = task.pool.split_at(task.named + row.used);
+    for number in known {
+        next.push(row.with(depth, *number, row.used));
     }
-    count + (n + 1)
-}
-
-// What is there, or else the first row whose lane says yes.
-fn or_first(there: Option<Row>, word: Word, rows: &[Row]) -> Option<Row>
-    requires { length rows.now ≤ 256 }
-    ensures { OrFirst there word rows.now result }
-{
-    match there {
-        Some(row) => Some(row),
-        None => first(word, rows),
-    }
+    next.push(row.with(depth, fresh[0], row.used + 1));
 }
 
 // The first row whose lane says yes.
@@ -113,9 +95,9 @@ fn first(word: Word, rows: &[Row]) -> Option<Row>
     requires { length rows.now ≤ 256 }
     ensures { First word rows.now result }
 {
-    for l in 0..rows.len() {
+    for (l, row) in rows.iter().enumerate() {
         if word.test(l) {
-            return Some(rows[l]);
+            return Some(*row);
         }
     }
     None

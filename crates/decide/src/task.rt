@@ -1,5 +1,10 @@
 // What is tried: the conditions, the gaps and the numbers.
+ghost use Rattle.std.specs.Prelude.{ℕ, ◌+◌, ◌*◌, ◌≤◌, length};
+ghost use Rattle.condition.specs.Store.{count};
+ghost use Rattle.decide.specs.Goals.{SetUp};
+
 use crate::gaps::Gaps;
+use arrayvec::ArrayVec;
 
 // The places of two conditions in a store: what is known, and what a row is shown by.
 #[derive(Clone, Copy)]
@@ -8,11 +13,14 @@ pub(crate) struct Goal {
     pub(crate) shows: u64,
 }
 
-// The gaps that are tried, and the numbers: first those that are named, then a fresh one for each gap.
-#[derive(Clone, Copy)]
-pub(crate) struct Task {
+// Over a store the goal, the gaps that are tried, and the numbers: first those that are named, then a fresh one for each gap.
+#[derive(Drop)]
+pub(crate) struct Task<'a> {
+    pub(crate) cone: &'a [u64],
     pub(crate) goal: Goal,
     pub(crate) gaps: Gaps,
-    pub(crate) pool: [u64; 14],
+    pub(crate) pool: ArrayVec<u64, 14>,
     pub(crate) named: usize,
+    ghost stands: { 1 + 5 * count cone.now ≤ length cone.now },
+    ghost set_up: { SetUp cone.now goal gaps.names.items pool.items named },
 }

@@ -1,74 +1,48 @@
 // Words: 256 answers at once, one in each lane.
-ghost use Rattle.std.specs.Prelude.{◌≡◌, ℕ, ◌<◌, true, false, not, ◌&&◌, ◌||◌, ◌==◌};
+ghost use Rattle.std.specs.Prelude.{◌≡◌, ℕ, ◌<◌, ◌≤◌, not, ◌&&◌, ◌||◌, length, ◌==◌, slice_index_or};
+ghost use Rattle.std.specs.Fn.{FnReturnsAt};
 ghost use Rattle.decide.specs.Bit.{lane};
 
-use crate::bits;
+use std::array;
+use std::ops::{BitAnd, BitOr, Not};
 
 // 256 answers.
-#[derive(Clone, Copy)]
+#[derive(Clone, Copy, Default)]
 pub(crate) struct Word {
     bits: [u64; 4],
 }
 
 impl Word {
-    // No in every lane.
-    pub(crate) fn none() -> Word
-        ensures { (l : ℕ) → l < 256 → lane l result ≡ false }
+    // The same answer in every lane.
+    pub(crate) fn same(answer: bool) -> Word
+        ensures { (l : ℕ) → l < 256 → lane l result ≡ answer }
     {
-        Word { bits: [0, 0, 0, 0] }
+        let bits = if answer { !0 } else { 0 };
+        Word { bits: [bits; 4] }
     }
 
-    // Yes in every lane.
-    pub(crate) fn all() -> Word
-        ensures { (l : ℕ) → l < 256 → lane l result ≡ true }
+    // The lanes whose items pass a test, one item in each lane.
+    pub(crate) fn passing<T, F: Fn(&T) -> bool>(items: &[T], test: F) -> Word
+        requires few { length items.now ≤ 256 }
+        requires callable { F.IsAlwaysCallable test }
+        ensures { (l : ℕ) (d : T) → l < length items.now → FnReturnsAt F.Fn test (slice_index_or items.now l d) (lane l result) }
     {
-        Word {
-            bits: [!0, !0, !0, !0],
+        let mut word = Word::same(false);
+        for (l, item) in items.iter().enumerate() {
+            if test(item) {
+                word = word.with(l);
+            }
         }
-    }
-
-    // The lanes in which both say yes.
-    pub(crate) fn and(self, other: Word) -> Word
-        ensures { (l : ℕ) → l < 256 → lane l result ≡ (lane l self && lane l other) }
-    {
-        let (a, b) = (self.bits, other.bits);
-        Word {
-            bits: [a[0] & b[0], a[1] & b[1], a[2] & b[2], a[3] & b[3]],
-        }
-    }
-
-    // The lanes in which one says yes.
-    pub(crate) fn or(self, other: Word) -> Word
-        ensures { (l : ℕ) → l < 256 → lane l result ≡ (lane l self || lane l other) }
-    {
-        let (a, b) = (self.bits, other.bits);
-        Word {
-            bits: [a[0] | b[0], a[1] | b[1], a[2] | b[2], a[3] | b[3]],
-        }
-    }
-
-    // The contrary in every lane.
-    pub(crate) fn flip(self) -> Word
-        ensures { (l : ℕ) → l < 256 → lane l result ≡ not (lane l self) }
-    {
-        let a = self.bits;
-        Word {
-            bits: [
-                bits::flip(a[0]),
-                bits::flip(a[1]),
-                bits::flip(a[2]),
-                bits::flip(a[3]),
-            ],
-        }
+        word
     }
 
     // The word with yes in lane k.
-    pub(crate) fn with(self, k: usize) -> Word
+    fn with(self, k: usize) -> Word
         requires { k < 256 }
         ensures { (l : ℕ) → l < 256 → lane l result ≡ (l == k || lane l self) }
     {
         let mut bits = self.bits;
-        bits[k / 64] = bits::with(bits[k / 64], k % 64);
+        bits[k / 64] |= 1 << k % 64;
         Word { bits }
     }
 
@@ -77,6 +51,45 @@ impl Word {
         requires { k < 256 }
         ensures { result ≡ lane k self }
     {
-        bits::test(self.bits[k / 64], k % 64)
+        self.bits[k / 64] >> k % 64 & 1 == 1
+    }
+}
+
+// The lanes in which both say yes.
+impl BitAnd for Word {
+    type Output = Word;
+
+    ghost bitand_gives = { λ a b r. (l : ℕ) → l < 256 → lane l r ≡ (lane l a && lane l b) };
+
+    fn bitand(self, other: Word) -> Word {
+        Word {
+            bits: array::from_fn(|i| self.bits[i] & other.bits[i]),
+        }
+    }
+}
+
+// The lanes in which one says yes.
+impl BitOr for Word {
+    type Output = Word;
+
+    ghost bitor_gives = { λ a b r. (l : ℕ) → l < 256 → lane l r ≡ (lane l a || lane l b) };
+
+    fn bitor(self, other: Word) -> Word {
+        Word {
+            bits: array::from_fn(|i| self.bits[i] | other.bits[i]),
+        }
+    }
+}
+
+// The contrary in every lane.
+impl Not for Word {
+    type Output = Word;
+
+    ghost not_gives = { λ a r. (l : ℕ) → l < 256 → lane l r ≡ not (lane l a) };
+
+    fn not(self) -> Word {
+        Word {
+            bits: self.bits.map(|a| !a),
+        }
     }
 }

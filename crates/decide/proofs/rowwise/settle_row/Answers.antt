@@ -1,4 +1,4 @@
-use Rattle.std.proofs.Common.{◌≡◌, length, get_or, vec_items, arith}
+use Rattle.std.proofs.Common.{◌≡◌, true, false, length, get_or, vec_items, arith}
 use borrow.Author.Rules.{get_or_read}
 use Rattle.condition.specs.Store.{count, cond_at}
 use Rattle.list.specs.Layout.{lines_in}
@@ -36,5 +36,5 @@ returns c =
           (stood c.args.nodes.now (cond_at c.args.nodes.now c.args.known) (lines_in c.args.nodes.now c.args.n (length c.args.row.now) c.args.answer.now) c.args.row.now
           (count c.args.nodes.now) c.args.marks.now c.args.notes.now c.requires.surveyed c.args.names.now.at c.args.names.now.many c.requires.few.0 c.requires.few.1
           (vec_items c.in_ok-cone.cone.nodes) c.in_ok-cone.cone.goal d
-          c.try_all-found.result.shows c.try_all-found.result.lacks (rw e at c.try_all-found.ensures.shows) (rw e at c.try_all-found.ensures.lacks));
+          c.try_all-found.result.yes c.try_all-found.result.no (rw e at (c.try_all-found.ensures true)) (rw e at (c.try_all-found.ensures false)));
     }

@@ -1,9 +1,6 @@
-use Rattle.std.proofs.Common.{◌≡◌, ℕ, ◌+◌, ◌<◌, cond as if, eqb, ltb, get_or}
-use Rattle.decide.specs.Rows.{number_at, blank}
+use Rattle.std.proofs.Common.{◌+◌}
+use Rattle.decide.proofs.Spreading.{Spread}
 use Rattle.decide.proofs.search.extend.Given as goal
 
-abbrev pub invariant-loop-k : goal.invariant-loop-k
-invariant-loop-k l =
-    ((p : ℕ) → p < l.count → get_or l.next p blank ≡ get_or l.initial.next p blank)
-    × ((k : ℕ) → k < l.k → (p : ℕ) → number_at (get_or l.next (l.count + k) blank) p ≡ if (eqb p l.depth) (get_or l.task.pool k 0) (number_at l.row p))
-    × ((k : ℕ) → k < l.k → (get_or l.next (l.count + k) blank).used ≡ if (ltb k l.n) l.row.used (l.row.used + 1))
+abbrev pub invariant-loop-number : goal.invariant-loop-number
+invariant-loop-number l = Spread l.task.pool.items l.row l.depth (l.task.named + l.row.used) l.fn.next.items l.number-index l.next.items

@@ -1,16 +1,11 @@
-use Rattle.std.proofs.Common.{true, false, [], ◌∷◌, subst, arith}
-use Rattle.decide.specs.Lanes.{goal_of}
-use Rattle.decide.specs.Trying.{Tried}
-use Rattle.decide.specs.declared.task.Goal.{Goal}
-use Rattle.decide.proofs.Pools.{tried}
+use Rattle.std.proofs.Common.{rules}
+use Rattle.decide.specs.Sides.{side}
+use Rattle.decide.specs.Search.{tried}
+use Rattle.decide.proofs.Gathering.{FilledRow, found_all}
 use Rattle.decide.proofs.trying.try_all.Goals as goal
 
 pub returns : goal.returns
-returns c =
-    let task = c.task-task in let met = c.search-met in let rows = c.zeros.result ∷ [] in
-    record {
-      shows = subst (λ (g : Goal). Tried (goal_of c.args.cone.now g true) c.filled.result) task.ensures.goal
-          (tried c.args.cone.now task.result task.ensures.up true rows met.result.shows c.filled.result (omega arith) (met.ensures.sound true) (met.ensures.dead true) c.filled.ensures);
-      lacks = subst (λ (g : Goal). Tried (goal_of c.args.cone.now g false) c.filled-2.result) task.ensures.goal
-          (tried c.args.cone.now task.result task.ensures.up false rows met.result.lacks c.filled-2.result (omega arith) (met.ensures.sound false) (met.ensures.dead false) c.filled-2.ensures);
-    }
+returns c t =
+    let task = c.task-task in let met = c.search-met in
+    let filled : FilledRow (tried task.result) (side t met.result) (side t c.map.result) = let e = c.map.ensures t in search rules in
+    rw (← task.ensures.cone, ← task.ensures.goal) (found_all task.result t c.default.result (side t met.result) (side t c.map.result) (met.ensures.sound t) (met.ensures.dead t) filled)

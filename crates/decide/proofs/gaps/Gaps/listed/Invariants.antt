@@ -1,5 +1,5 @@
-use Rattle.decide.specs.Rows.{Listed}
+use Rattle.decide.proofs.Listing.{Collected}
 use Rattle.decide.proofs.gaps.Gaps.listed.Given as goal
 
-abbrev pub invariant-loop-i : goal.invariant-loop-i
-invariant-loop-i l = Listed l.gaps l.i l.listed
+abbrev pub invariant-loop-gap : goal.invariant-loop-gap
+invariant-loop-gap l = Collected l.gaps l.gap-index l.names.items

@@ -1,14 +1,14 @@
-use Rattle.std.proofs.Common.{ap, ◌∙◌, arith}
-use Rattle.evaluate.specs.Shapes.{numbers_of}
-use Rattle.evaluate.specs.declared.Filling.{Filling}
-use Rattle.decide.specs.Rows.{filling_of}
-use Rattle.decide.proofs.Listing.{put_more}
+use Rattle.std.proofs.Common.{◌≡◌, ◌<◌, length, ap, ◌∙◌, arith}
+use Rattle.decide.proofs.Listing.{upto_all, upto_more}
 use Rattle.decide.proofs.rows.Row.filling.Goals as goal
 
-pub loop-k-preserved : goal.loop-k-preserved
-loop-k-preserved c = elim c.match-with.branch [
-  | goal.in-Some w ↦
-      put_more (filling_of c.args.gaps.now c.args.self) (numbers_of c.loop-k.filling) (numbers_of c.match-with.filling) c.loop-k.k c.number-number.result
-      (λ k. ap (λ (f : Filling). numbers_of f k) w.filling-is ∙ w.in-Some.ensures.numbers k) c.number-number.ensures c.loop-k.invariant
-  | goal.in_default w ↦ absurd (omega (arith, w.in_default.ensures.gap))
-]
+pub loop-p-preserved : goal.loop-p-preserved
+loop-p-preserved c k =
+    let gs = c.args.gaps.now.names.items in let e = c.deref-name-items.ensures.0 in
+    let h : c.loop-p.p < length gs = omega (arith, ap length e) in
+    rw (c.unwrap-filling.ensures, e) at c.with.ensures.numbers k ∙ upto_more gs c.args.self c.args.gaps.now.distinct c.loop-p.p h k _ (c.loop-p.invariant k)
+
+pub returns : goal.returns
+returns c k h =
+    let e : c.loop-p.p ≡ length c.args.gaps.now.names.items = omega (arith, ap length c.deref-name-items.ensures.0) in
+    rw e at c.loop-p.invariant k ∙ upto_all c.args.gaps.now.names.items c.args.self k

@@ -1,8 +1,0 @@
-use Rattle.std.proofs.Common.{◌/◌, ◌%◌}
-use Rattle.decide.specs.Bit.{lane}
-use Rattle.decide.proofs.Fours.{place, or_four}
-use Rattle.decide.proofs.words.Word.or.Goals as goal
-
-pub returns : goal.returns
-unfolding lane
-returns c = λ l h. or_four c.args.self.bits c.args.other.bits (l % 64) (l / 64) (place l h)
