@@ -12,7 +12,7 @@ use Rattle.evaluate.specs.Filling.{Filling, holds}
 use Rattle.evaluate.specs.Values.{value_of}
 use Rattle.evaluate.proofs.Holding.{holds_never}
 use Rattle.evaluate.proofs.Worked.{by_node}
-use Rattle.decide.specs.Folding.{Begun, Tidy, Draws, truth, Built, place_in, renamed, Folds}
+use Rattle.decide.specs.Folding.{Begun, Draws, truth, Built, place_in, renamed, Folds}
 use Rattle.decide.specs.Reaching.{EachPlace, marked, Closed}
 use Rattle.decide.proofs.Counted.{counted_yes, counted_more}
 use Rattle.decide.proofs.Simpler.{truth_never}
@@ -59,26 +59,22 @@ value_renamed v f (Both a b) bs cs h = rw (h.0, h.1) refl
 value_renamed v f (Either a b) bs cs h = rw (h.0, h.1) refl
 
 -- nothing folded yet
-pub folds_none : (nodes : List ℕ) (marks : List Bool) (xs ps : List ℕ) → Begun xs → Tidy xs → Folds nodes 0 marks xs xs ps
-folds_none nodes marks xs ps b t = record {
+pub folds_none : (nodes : List ℕ) (marks : List Bool) (xs ps : List ℕ) → Begun xs → Folds nodes 0 marks xs xs ps
+folds_none nodes marks xs ps b = record {
   grown = grown_self xs b.fits;
   few = omega arith;
-  begun = b;
-  tidy = t;
   stand = λ i l m. absurd (omega arith);
   value = λ i l m v. absurd (omega arith);
   covered = λ ns gs c d. c;
 }
 
 -- the node that was reached, over places of the cone
-module _ (nodes : List ℕ) (i n : ℕ) (marks : List Bool) (xs ys ps : List ℕ) (folds : Folds nodes i marks xs ys ps) (closed : Closed nodes n marks) (low : i < n) where
+module _ (nodes : List ℕ) (i n : ℕ) (marks : List Bool) (xs ys ps : List ℕ) (begun : Begun ys) (folds : Folds nodes i marks xs ys ps) (closed : Closed nodes n marks) (low : i < n) where
   -- one that is not marked
   pub folds_past : get_or marks i false ≡ false → Folds nodes (i + 1) marks xs ys ps
   folds_past e = record {
     grown = folds.grown;
     few = omega (arith, folds.few, counted_more i (i + 1) (marked marks) (omega arith));
-    begun = folds.begun;
-    tidy = folds.tidy;
     stand = λ k l m. elim (cases_lt k i) [
       | inl p ↦ folds.stand k p m
       | inr p ↦ let q : k ≡ i = omega arith in absurd (both_ways (get_or marks k false) (rw q e) m)
@@ -95,7 +91,7 @@ module _ (nodes : List ℕ) (i n : ℕ) (marks : List Bool) (xs ys ps : List ℕ
     place_stands : (j : ℕ) → (j < i → get_or marks j false ≡ true) → place_in i ps j < count ys
     place_stands j h = elim (cases_lt j i) [
       | inl l ↦ rw (lt-ltb j i l) (folds.stand j l (h l))
-      | inr l ↦ rw (le-ltb j i l) folds.begun.two
+      | inr l ↦ rw (le-ltb j i l) begun.two
     ]
 
     pub places_stand : EachPlace (renamed (place_in i ps) (decoded nodes i)) (λ j. j < count ys)
@@ -106,7 +102,7 @@ module _ (nodes : List ℕ) (i n : ℕ) (marks : List Bool) (xs ys ps : List ℕ
     place_says : (v : Filling) (j : ℕ) → (j < i → get_or marks j false ≡ true) → truth ys v (place_in i ps j) ≡ holds v (earlier i (cond_at nodes) j)
     place_says v j h = elim (cases_lt j i) [
       | inl l ↦ rw (lt-ltb j i l) (folds.value j l (h l) v)
-      | inr l ↦ rw (le-ltb j i l) (truth_never ys folds.begun v ∙ sym (holds_never v))
+      | inr l ↦ rw (le-ltb j i l) (truth_never ys begun v ∙ sym (holds_never v))
     ]
 
     module _ (stands : i < count nodes) (named : Named (decoded nodes i)) (zs : List ℕ) (r : ℕ) (built : Built ys zs (renamed (place_in i ps) (decoded nodes i)) r) (long : i < length ps) where
@@ -122,8 +118,6 @@ module _ (nodes : List ℕ) (i n : ℕ) (marks : List Bool) (xs ys ps : List ℕ
       folds_more = record {
         grown = grown_trans xs ys zs folds.grown built.grown;
         few = omega (arith, folds.few, built.few, counted_yes i (marked marks) set_here);
-        begun = built.begun;
-        tidy = built.tidy;
         stand = λ k l m. elim (cases_lt k i) [
           | inl p ↦ let ne : k ≢ i = omega arith in rw get_or-set_other (omega (arith, folds.stand k p m, built.grown.more))
           | inr p ↦ let q : k ≡ i = omega arith in rw (q, get_or-set_same ps i r 0 long) built.stands

@@ -15,10 +15,12 @@ use Rattle.evaluate.specs.Filling.{Filling, holds, fill_cell}
 use Rattle.evaluate.specs.Values.{value_of}
 use Rattle.evaluate.proofs.Holding.{holds_always, holds_never, holds_not}
 use Rattle.decide.specs.Reaching.{Covers}
-use Rattle.decide.specs.Folding.{Begun, Neat, Tidy, Draws, truth, Says, StandsFor, ComesTo}
+use Rattle.decide.specs.Folding.{Begun, Neat, Tidy, Draws, truth, joined, vanishing, settling, Says, StandsFor, ComesTo}
+use Rattle.decide.specs.declared.simplifying.Join.{Join}
+use Rattle.decide.specs.declared.simplifying.Join.TheVariants.{All, Any}
 use Rattle.decide.specs.declared.simplifying.Simple.{Simple}
 use Rattle.decide.specs.declared.simplifying.Simple.TheVariants.{Place, New}
-use Rattle.decide.proofs.Cone.{neat_behind}
+use Rattle.decide.proofs.Added.{neat_behind}
 
 and_self : (x : Bool) → x ≡ (x && x)
 and_self true = refl
@@ -74,23 +76,18 @@ module _ (xs : List ℕ) (b : Begun xs) where
   pub not_never : (a : ℕ) → a ≡ 1 → Says xs (Not a) 0
   not_never a e = says_always (Not a) (λ v. ap (λ j. not (truth xs v j)) e ∙ ap not (truth_never v))
 
-  pub both_always : (a c : ℕ) → a ≡ 0 → c < count xs → Says xs (Both a c) c
-  both_always a c e l = record { stands = l; value = λ v. sym (ap (λ j. truth xs v j && truth xs v c) e ∙ ap (λ t. t && truth xs v c) (truth_always v)) }
+  -- one constant changes nothing, the other settles what it is joined to, and so does a condition with its negation
+  pub join_vanishing : (j : Join) (a c : ℕ) → a ≡ vanishing j → c < count xs → Says xs (joined j a c) c
+  join_vanishing All a c e l = record { stands = l; value = λ v. sym (ap (λ k. truth xs v k && truth xs v c) e ∙ ap (λ t. t && truth xs v c) (truth_always v)) }
+  join_vanishing Any a c e l = record { stands = l; value = λ v. sym (ap (λ k. truth xs v k || truth xs v c) e ∙ ap (λ t. t || truth xs v c) (truth_never v)) }
 
-  pub both_never : (a c : ℕ) → a ≡ 1 → Says xs (Both a c) 1
-  both_never a c e = says_never (Both a c) (λ v. ap (λ j. truth xs v j && truth xs v c) e ∙ ap (λ t. t && truth xs v c) (truth_never v))
+  pub join_settling : (j : Join) (a c : ℕ) → a ≡ settling j → Says xs (joined j a c) (settling j)
+  join_settling All a c e = says_never (Both a c) (λ v. ap (λ k. truth xs v k && truth xs v c) e ∙ ap (λ t. t && truth xs v c) (truth_never v))
+  join_settling Any a c e = says_always (Either a c) (λ v. ap (λ k. truth xs v k || truth xs v c) e ∙ ap (λ t. t || truth xs v c) (truth_always v))
 
-  pub both_negated : (a c : ℕ) → ((v : Filling) → truth xs v c ≡ not (truth xs v a)) → Says xs (Both a c) 1
-  both_negated a c h = says_never (Both a c) (λ v. ap (λ t. truth xs v a && t) (h v) ∙ sym (and_not (truth xs v a)))
-
-  pub either_always : (a c : ℕ) → a ≡ 0 → Says xs (Either a c) 0
-  either_always a c e = says_always (Either a c) (λ v. ap (λ j. truth xs v j || truth xs v c) e ∙ ap (λ t. t || truth xs v c) (truth_always v))
-
-  pub either_never : (a c : ℕ) → a ≡ 1 → c < count xs → Says xs (Either a c) c
-  either_never a c e l = record { stands = l; value = λ v. sym (ap (λ j. truth xs v j || truth xs v c) e ∙ ap (λ t. t || truth xs v c) (truth_never v)) }
-
-  pub either_negated : (a c : ℕ) → ((v : Filling) → truth xs v c ≡ not (truth xs v a)) → Says xs (Either a c) 0
-  either_negated a c h = says_always (Either a c) (λ v. ap (λ t. truth xs v a || t) (h v) ∙ sym (or_not (truth xs v a)))
+  pub join_negated : (j : Join) (a c : ℕ) → ((v : Filling) → truth xs v c ≡ not (truth xs v a)) → Says xs (joined j a c) (settling j)
+  join_negated All a c h = says_never (Both a c) (λ v. ap (λ t. truth xs v a && t) (h v) ∙ sym (and_not (truth xs v a)))
+  join_negated Any a c h = says_always (Either a c) (λ v. ap (λ t. truth xs v a || t) (h v) ∙ sym (or_not (truth xs v a)))
 
   pub equal_same : (a c : Cell) → a ≡ c → Says xs (Equal a c) 0
   equal_same a c e = says_always (Equal a c) (λ v. eq-eqb _ _ (ap (λ t. fill_cell v (cell_of t)) e))
@@ -99,11 +96,14 @@ module _ (xs : List ℕ) (b : Begun xs) where
   equal_apart a c m n p q h = rw (p, q) (says_never (Equal (Number m) (Number n)) (λ v. ne_eqb m n h))
 
 -- one place twice
-pub both_self : (xs : List ℕ) (a c : ℕ) → a ≡ c → a < count xs → Says xs (Both a c) a
-both_self xs a c e l = record { stands = l; value = λ v. and_self (truth xs v a) ∙ ap (λ j. truth xs v a && truth xs v j) e }
+pub join_self : (xs : List ℕ) (j : Join) (a c : ℕ) → a ≡ c → a < count xs → Says xs (joined j a c) a
+join_self xs All a c e l = record { stands = l; value = λ v. and_self (truth xs v a) ∙ ap (λ k. truth xs v a && truth xs v k) e }
+join_self xs Any a c e l = record { stands = l; value = λ v. or_self (truth xs v a) ∙ ap (λ k. truth xs v a || truth xs v k) e }
 
-pub either_self : (xs : List ℕ) (a c : ℕ) → a ≡ c → a < count xs → Says xs (Either a c) a
-either_self xs a c e l = record { stands = l; value = λ v. or_self (truth xs v a) ∙ ap (λ j. truth xs v a || truth xs v j) e }
+-- two places in order, neither of a constant
+pub join_new : (xs : List ℕ) (j : Join) (a c : ℕ) → (a ≡ vanishing j → ⊥) → (a ≡ settling j → ⊥) → a < c → c < count xs → StandsFor xs (joined j a c) (joined j a c)
+join_new xs All a c p q l m = record { neat = (omega arith, l, m); named = tt; value = λ v. refl; draws = λ ns gs d. tt }
+join_new xs Any a c p q l m = record { neat = (omega arith, l, m); named = tt; value = λ v. refl; draws = λ ns gs d. tt }
 
 -- a node that holds where another does comes to the same
 turned : (xs : List ℕ) (n m : Node) (s : Simple) → ((v : Filling) → value_of v n (truth xs v) ≡ value_of v m (truth xs v)) →
@@ -111,11 +111,9 @@ turned : (xs : List ℕ) (n m : Node) (s : Simple) → ((v : Filling) → value_
 turned xs n m (Place r) e d h = record { stands = h.stands; value = λ v. h.value v ∙ e v }
 turned xs n m (New k) e d h = record { neat = h.neat; named = h.named; value = λ v. h.value v ∙ e v; draws = λ ns gs p. h.draws ns gs (d ns gs p) }
 
-pub both_turned : (xs : List ℕ) (a c : ℕ) (s : Simple) → ComesTo xs (Both c a) s → ComesTo xs (Both a c) s
-both_turned xs a c s h = turned xs (Both c a) (Both a c) s (λ v. and_swap (truth xs v c) (truth xs v a)) (λ ns gs p. tt) h
-
-pub either_turned : (xs : List ℕ) (a c : ℕ) (s : Simple) → ComesTo xs (Either c a) s → ComesTo xs (Either a c) s
-either_turned xs a c s h = turned xs (Either c a) (Either a c) s (λ v. or_swap (truth xs v c) (truth xs v a)) (λ ns gs p. tt) h
+pub join_turned : (xs : List ℕ) (j : Join) (a c : ℕ) (s : Simple) → ComesTo xs (joined j c a) s → ComesTo xs (joined j a c) s
+join_turned xs All a c s h = turned xs (Both c a) (Both a c) s (λ v. and_swap (truth xs v c) (truth xs v a)) (λ ns gs p. tt) h
+join_turned xs Any a c s h = turned xs (Either c a) (Either a c) s (λ v. or_swap (truth xs v c) (truth xs v a)) (λ ns gs p. tt) h
 
 within_turn : (j k : ℕ) (gs : List ℕ) → Within (j ∷ (k ∷ [])) gs → Within (k ∷ (j ∷ [])) gs
 unfolding Within has
