@@ -22,14 +22,6 @@ pub grown_decoded : (xs ys : List ℕ) → Grown xs ys → (i : ℕ) → i < cou
 grown_decoded xs ys g i l =
     rw (g.front (1 + 5 * i) (omega arith) (omega arith), g.front (1 + 5 * i + 1) (omega arith) (omega arith), g.front (1 + 5 * i + 2) (omega arith) (omega arith), g.front (1 + 5 * i + 3) (omega arith) (omega arith), g.front (1 + 5 * i + 4) (omega arith) (omega arith)) refl
 
-pub grown_begun : (xs ys : List ℕ) → Grown xs ys → Begun xs → Begun ys
-grown_begun xs ys g b = record {
-  fits = g.fits;
-  two = omega (arith, g.more, b.two);
-  first = grown_cond xs ys g 0 (omega (arith, b.two)) ∙ b.first;
-  second = grown_cond xs ys g 1 (omega (arith, b.two)) ∙ b.second;
-}
-
 -- a neat node stands behind all that it names
 pub neat_behind : (i : ℕ) (n : Node) → Neat i n → behind n i ≡ true
 neat_behind i Always h = absurd h

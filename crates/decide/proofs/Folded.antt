@@ -6,7 +6,7 @@ use Rattle.condition.specs.Shapes.{Named}
 use Rattle.condition.specs.Nodes.{decoded}
 use Rattle.condition.specs.declared.Node.{Node}
 use Rattle.condition.specs.declared.Node.TheVariants.{Always, Never, Equal, Not, Both, Either}
-use Rattle.condition.proofs.Growing.{grown_self, grown_trans, grown_cond}
+use Rattle.condition.proofs.Growing.{grown_trans, grown_cond}
 use Rattle.condition.proofs.Decoding.{at_decoded}
 use Rattle.evaluate.specs.Filling.{Filling, holds}
 use Rattle.evaluate.specs.Values.{value_of}
@@ -25,22 +25,6 @@ each_map (Not a) P Q f h = f a h
 each_map (Both a b) P Q f h = (f a h.0, f b h.1)
 each_map (Either a b) P Q f h = (f a h.0, f b h.1)
 
-each_renamed : (f : ℕ → ℕ) (n : Node) (P : ℕ → Type 0) → EachPlace n (λ j. P (f j)) → EachPlace (renamed f n) P
-each_renamed f Always P h = tt
-each_renamed f Never P h = tt
-each_renamed f (Equal a b) P h = tt
-each_renamed f (Not a) P h = h
-each_renamed f (Both a b) P h = h
-each_renamed f (Either a b) P h = h
-
-pub named_renamed : (f : ℕ → ℕ) (n : Node) → Named n → Named (renamed f n)
-named_renamed f Always h = tt
-named_renamed f Never h = tt
-named_renamed f (Equal a b) h = h
-named_renamed f (Not a) h = tt
-named_renamed f (Both a b) h = tt
-named_renamed f (Either a b) h = tt
-
 draws_renamed : (f : ℕ → ℕ) (n : Node) (ns gs : List ℕ) → Draws n ns gs → Draws (renamed f n) ns gs
 draws_renamed f Always ns gs h = tt
 draws_renamed f Never ns gs h = tt
@@ -57,16 +41,6 @@ value_renamed v f (Equal a b) bs cs h = refl
 value_renamed v f (Not a) bs cs h = ap not h
 value_renamed v f (Both a b) bs cs h = rw (h.0, h.1) refl
 value_renamed v f (Either a b) bs cs h = rw (h.0, h.1) refl
-
--- nothing folded yet
-pub folds_none : (nodes : List ℕ) (marks : List Bool) (xs ps : List ℕ) → Begun xs → Folds nodes 0 marks xs xs ps
-folds_none nodes marks xs ps b = record {
-  grown = grown_self xs b.fits;
-  few = omega arith;
-  stand = λ i l m. absurd (omega arith);
-  value = λ i l m v. absurd (omega arith);
-  covered = λ ns gs c d. c;
-}
 
 -- the node that was reached, over places of the cone
 module _ (nodes : List ℕ) (i n : ℕ) (marks : List Bool) (xs ys ps : List ℕ) (begun : Begun ys) (folds : Folds nodes i marks xs ys ps) (closed : Closed nodes n marks) (low : i < n) where
@@ -88,17 +62,6 @@ module _ (nodes : List ℕ) (i n : ℕ) (marks : List Bool) (xs ys ps : List ℕ
 
   -- one that is
   module _ (set_here : get_or marks i false ≡ true) where
-    place_stands : (j : ℕ) → (j < i → get_or marks j false ≡ true) → place_in i ps j < count ys
-    place_stands j h = elim (cases_lt j i) [
-      | inl l ↦ rw (lt-ltb j i l) (folds.stand j l (h l))
-      | inr l ↦ rw (le-ltb j i l) begun.two
-    ]
-
-    pub places_stand : EachPlace (renamed (place_in i ps) (decoded nodes i)) (λ j. j < count ys)
-    places_stand =
-        each_renamed (place_in i ps) (decoded nodes i) (λ j. j < count ys)
-        (each_map (decoded nodes i) (λ j. j < i → get_or marks j false ≡ true) (λ j. place_in i ps j < count ys) place_stands (closed i low set_here))
-
     place_says : (v : Filling) (j : ℕ) → (j < i → get_or marks j false ≡ true) → truth ys v (place_in i ps j) ≡ holds v (earlier i (cond_at nodes) j)
     place_says v j h = elim (cases_lt j i) [
       | inl l ↦ rw (lt-ltb j i l) (folds.value j l (h l) v)

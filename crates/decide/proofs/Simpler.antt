@@ -15,32 +15,10 @@ use Rattle.evaluate.specs.Filling.{Filling, holds, fill_cell}
 use Rattle.evaluate.specs.Values.{value_of}
 use Rattle.evaluate.proofs.Holding.{holds_always, holds_never, holds_not}
 use Rattle.decide.specs.Reaching.{Covers}
-use Rattle.decide.specs.Folding.{Begun, Neat, Tidy, Draws, truth, joined, vanishing, settling, Says, StandsFor, ComesTo}
+use Rattle.decide.specs.Folding.{Begun, Neat, Tidy, truth, joined, vanishing, settling, Says, StandsFor}
 use Rattle.decide.specs.declared.simplifying.Join.{Join}
 use Rattle.decide.specs.declared.simplifying.Join.TheVariants.{All, Any}
-use Rattle.decide.specs.declared.simplifying.Simple.{Simple}
-use Rattle.decide.specs.declared.simplifying.Simple.TheVariants.{Place, New}
 use Rattle.decide.proofs.Added.{neat_behind}
-
-and_self : (x : Bool) → x ≡ (x && x)
-and_self true = refl
-and_self false = refl
-
-or_self : (x : Bool) → x ≡ (x || x)
-or_self true = refl
-or_self false = refl
-
-and_swap : (x y : Bool) → (x && y) ≡ (y && x)
-and_swap true true = refl
-and_swap true false = refl
-and_swap false true = refl
-and_swap false false = refl
-
-or_swap : (x y : Bool) → (x || y) ≡ (y || x)
-or_swap true true = refl
-or_swap true false = refl
-or_swap false true = refl
-or_swap false false = refl
 
 and_not : (x : Bool) → false ≡ (x && not x)
 and_not true = refl
@@ -49,12 +27,6 @@ and_not false = refl
 or_not : (x : Bool) → true ≡ (x || not x)
 or_not true = refl
 or_not false = refl
-
-not_not : (x y : Bool) → x ≡ not y → y ≡ not x
-not_not true true e = e
-not_not true false e = refl
-not_not false true e = refl
-not_not false false e = e
 
 -- the constants of a cone
 module _ (xs : List ℕ) (b : Begun xs) where
@@ -95,26 +67,6 @@ module _ (xs : List ℕ) (b : Begun xs) where
   pub equal_apart : (a c : Cell) (m n : ℕ) → a ≡ Number m → c ≡ Number n → (m ≡ n → ⊥) → Says xs (Equal a c) 1
   equal_apart a c m n p q h = rw (p, q) (says_never (Equal (Number m) (Number n)) (λ v. ne_eqb m n h))
 
--- one place twice
-pub join_self : (xs : List ℕ) (j : Join) (a c : ℕ) → a ≡ c → a < count xs → Says xs (joined j a c) a
-join_self xs All a c e l = record { stands = l; value = λ v. and_self (truth xs v a) ∙ ap (λ k. truth xs v a && truth xs v k) e }
-join_self xs Any a c e l = record { stands = l; value = λ v. or_self (truth xs v a) ∙ ap (λ k. truth xs v a || truth xs v k) e }
-
--- two places in order, neither of a constant
-pub join_new : (xs : List ℕ) (j : Join) (a c : ℕ) → (a ≡ vanishing j → ⊥) → (a ≡ settling j → ⊥) → a < c → c < count xs → StandsFor xs (joined j a c) (joined j a c)
-join_new xs All a c p q l m = record { neat = (omega arith, l, m); named = tt; value = λ v. refl; draws = λ ns gs d. tt }
-join_new xs Any a c p q l m = record { neat = (omega arith, l, m); named = tt; value = λ v. refl; draws = λ ns gs d. tt }
-
--- a node that holds where another does comes to the same
-turned : (xs : List ℕ) (n m : Node) (s : Simple) → ((v : Filling) → value_of v n (truth xs v) ≡ value_of v m (truth xs v)) →
-    ((ns gs : List ℕ) → Draws m ns gs → Draws n ns gs) → ComesTo xs n s → ComesTo xs m s
-turned xs n m (Place r) e d h = record { stands = h.stands; value = λ v. h.value v ∙ e v }
-turned xs n m (New k) e d h = record { neat = h.neat; named = h.named; value = λ v. h.value v ∙ e v; draws = λ ns gs p. h.draws ns gs (d ns gs p) }
-
-pub join_turned : (xs : List ℕ) (j : Join) (a c : ℕ) (s : Simple) → ComesTo xs (joined j c a) s → ComesTo xs (joined j a c) s
-join_turned xs All a c s h = turned xs (Both c a) (Both a c) s (λ v. and_swap (truth xs v c) (truth xs v a)) (λ ns gs p. tt) h
-join_turned xs Any a c s h = turned xs (Either c a) (Either a c) s (λ v. or_swap (truth xs v c) (truth xs v a)) (λ ns gs p. tt) h
-
 within_turn : (j k : ℕ) (gs : List ℕ) → Within (j ∷ (k ∷ [])) gs → Within (k ∷ (j ∷ [])) gs
 unfolding Within has
 within_turn j k gs h n e = h n (turn (eqb k n) (eqb j n) e)
@@ -148,11 +100,7 @@ equal_turned xs a c h m = record {
 }
 
 -- what a negation says
-pub negation : (xs : List ℕ) → Tidy xs → (a c : ℕ) → 2 ≤ a → a < count xs → Not c ≡ decoded xs a → (c < a) × ((v : Filling) → truth xs v a ≡ not (truth xs v c))
-negation xs t a c p q e =
+pub negation : (xs : List ℕ) → Tidy xs → (a c : ℕ) → 2 ≤ a → a < count xs → Not c ≡ decoded xs a → (v : Filling) → truth xs v a ≡ not (truth xs v c)
+negation xs t a c p q e v =
     let n : Neat a (Not c) = subst (Neat a) (sym e) (t a p q) in
-    let s = stands_means xs a (Not c) (record { stands = q; after = neat_behind a (Not c) n; same = sym e }) in
-    (n.1, λ v. ap (holds v) s ∙ holds_not v (cond_at xs c))
-
-pub not_negated : (xs : List ℕ) (a c : ℕ) → c < count xs → ((v : Filling) → truth xs v a ≡ not (truth xs v c)) → Says xs (Not a) c
-not_negated xs a c l h = record { stands = l; value = λ v. not_not (truth xs v a) (truth xs v c) (h v) }
+    ap (holds v) (stands_means xs a (Not c) (record { stands = q; after = neat_behind a (Not c) n; same = sym e })) ∙ holds_not v (cond_at xs c)

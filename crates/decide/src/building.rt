@@ -10,6 +10,8 @@ use condition::{Cell, Node, add};
 //
 // The index is a slice of places by hash, 0 where there is none. It is only a hint: what it holds is checked against the store. So any
 // slice may serve; one of zeros, twice as long as the nodes are many, leaves hardly a node standing twice.
+//
+// Each slice is lent for a lifetime of its own: with one for both, the prover would not tell the owner what its store holds afterwards.
 #[derive(Drop)]
 pub struct Cone<'n, 'i> {
     pub nodes: &'n mut [u64],

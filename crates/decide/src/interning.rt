@@ -7,7 +7,8 @@ ghost use Rattle.decide.specs.Folding.{Neat, Room, Built};
 ghost use Rattle.decide.specs.Building.{Same};
 
 use crate::building::Cone;
-use condition::{Cell, Node, add, node_at};
+use condition::{Node, add, node_at};
+use std::hash::{BuildHasher, BuildHasherDefault, FoldHasher};
 
 // How many entries of an index are looked at for one node.
 const PROBES: u64 = 8;
@@ -36,7 +37,8 @@ impl Cone<'_, '_> {
     fn seek(&self, node: Node) -> Result<u64, usize>
         ensures { MatchResult result (λ i. StandsAs self.now.nodes.now i node) (λ slot. slot < length self.now.index.now) }
     {
-        let mut slot = hash(node) as usize % self.index.len();
+        let hash = BuildHasherDefault::<FoldHasher>::new().hash_one(node);
+        let mut slot = hash as usize % self.index.len();
         for _ in 0..PROBES {
             let place = self.index[slot];
             if place < 2 {
@@ -61,30 +63,4 @@ impl Cone<'_, '_> {
     {
         place < self.nodes[0] && node_at(self.nodes, 1 + 5 * place as usize) == node
     }
-}
-
-// A number for a node, spread over all 64 bits.
-fn hash(node: Node) -> u64 {
-    match node {
-        Node::Always => 0,
-        Node::Never => 1,
-        Node::Equal(a, b) => mix(mix(2, cell_number(a)), cell_number(b)),
-        Node::Not(a) => mix(3, a),
-        Node::Both(a, b) => mix(mix(4, a), b),
-        Node::Either(a, b) => mix(mix(5, a), b),
-    }
-}
-
-// A number for a cell.
-fn cell_number(cell: Cell) -> u64 {
-    match cell {
-        Cell::Number(n) => n,
-        Cell::Gap(k) => !k,
-    }
-}
-
-// A number for two numbers.
-fn mix(h: u64, x: u64) -> u64 {
-    let product = (h ^ x).wrapping_mul(0x9E37_79B9_7F4A_7C15);
-    product ^ (product >> 32)
 }

@@ -49,7 +49,7 @@ impl Join {
         }
     }
 
-    // The place of the constant that decides what it is joined to.
+    // The place of the constant that settles what it is joined to.
     fn settling(self) -> u64
         ensures { result ≡ settling self }
     {
@@ -133,7 +133,7 @@ impl Cone<'_, '_> {
         }
     }
 
-    // One constant vanishes, the other decides, and so does a condition with its negation.
+    // One constant vanishes, the other settles all, and so does a condition with its negation.
     fn ordered_join(&self, join: Join, a: u64, b: u64) -> Simple
         requires { (a < b) × (b < count self.now.nodes.now) }
         ensures { ComesTo self.now.nodes.now (joined join a b) result }
