@@ -13,6 +13,7 @@ use Rattle.std.specs.Prelude.{◌≡◌, ℕ, Bool, true, false, ◌||◌, List,
 pub data Cell : Type 0 where
   known : ℕ → Cell
   gap : ℕ → Cell
+  deriving IsSet as Cell_set
 
 pub data Cond : Type 0 where
   always : Cond
@@ -21,6 +22,7 @@ pub data Cond : Type 0 where
   not_so : Cond → Cond
   both : Cond → Cond → Cond
   either : Cond → Cond → Cond
+  deriving IsSet as Cond_set
 
 unfoldable pub cells_of : Cond → List Cell
 cells_of always = []

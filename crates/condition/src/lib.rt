@@ -24,14 +24,14 @@ pub use shown::Condition;
 pub use store::{MOST_NODES, read_node, room, store_count};
 
 // A number, or a gap by its name.
-#[derive(Clone, Copy, Debug, PartialEq, Eq)]
+#[derive(Clone, Copy, Debug, PartialEq, Eq, Hash)]
 pub enum Cell {
     Number(u64),
     Gap(u64),
 }
 
 // A node of a store: a condition over two cells, or over conditions at other places of the store.
-#[derive(Clone, Copy, Debug, PartialEq, Eq)]
+#[derive(Clone, Copy, Debug, PartialEq, Eq, Hash)]
 pub enum Node {
     Always,
     Never,

@@ -1,5 +1,6 @@
 -- Laws of `counted`.
-use Rattle.std.proofs.Common.{◌≡◌, ℕ, zero, suc, ◌+◌, ◌<◌, ◌≤◌, Bool, true, false, cond as if, not, ◌&&◌, eqb, ◌⊎◌, List, [], ◌∷◌, length, get_or, sym, refl, ap, ◌∙◌, inl, inr, ⊎_elim, arith}
+use Rattle.std.proofs.Common.{◌≡◌, ℕ, zero, suc, ◌+◌, ◌<◌, ◌≤◌, Bool, true, false, cond as if, not, ◌&&◌, eqb, ◌⊎◌, List, [], ◌∷◌, length, get_or, take, count_by, sym, refl, ap, ◌∙◌, inl, inr, ⊎_elim, arith}
+use Rattle.std.proofs.lemmas.List.Sums.{count_by_more_yes, count_by_more_no}
 use Rattle.std.proofs.lemmas.Bool.{both_ways, cases_lt, cases_eq, cases_Bool, eq-eqb, ne_eqb, and_parts, and_from, or_cases, not-true, not_from_false}
 use Rattle.condition.specs.Cond.{has}
 use Rattle.condition.proofs.Lists.{has_none, has_cons}
@@ -117,3 +118,13 @@ counted_apart n p xs (suc m) a b h =
       counted_apart n (but p (get_or xs m 0)) xs m (λ i j l k. a i j l (omega arith)) (λ i l. b i (omega arith))
           (λ i l. and_from (p (get_or xs i 0)) _ (h i (omega arith)) (not_from_false _ (ne_eqb (get_or xs m 0) (get_or xs i 0) (λ e. a i m l (omega arith) (sym e))))),
     )
+
+-- the numbers that pass are as many as the elements at their places that pass
+pub counted_along : {X : Type 0} (n : ℕ) (p : ℕ → Bool) (q : X → Bool) (xs : List X) (d : X) → n ≤ length xs → ((k : ℕ) → k < n → q (get_or xs k d) ≡ p k) →
+    counted n p ≡ count_by q (take n xs)
+counted_along zero p q xs d l h = counted_zero p
+counted_along {X} (suc n) p q xs d l h = both (counted_along n p q xs d (omega arith) (λ k m. h k (omega arith))) (p n) refl
+  where
+    both : counted n p ≡ count_by q (take n xs) → (b : Bool) → p n ≡ b → counted (suc n) p ≡ count_by q (take (suc n) xs)
+    both e true t = let o : suc n ≡ n + 1 = omega arith in rw o (counted_yes n p t ∙ (ap (λ k. k + 1) e ∙ sym (count_by_more_yes q xs n d l (h n (omega arith) ∙ t))))
+    both e false f = let o : suc n ≡ n + 1 = omega arith in rw o (counted_no n p f ∙ (e ∙ sym (count_by_more_no q xs n d l (h n (omega arith) ∙ f))))

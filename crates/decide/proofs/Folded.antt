@@ -6,13 +6,13 @@ use Rattle.condition.specs.Shapes.{Named}
 use Rattle.condition.specs.Nodes.{decoded}
 use Rattle.condition.specs.declared.Node.{Node}
 use Rattle.condition.specs.declared.Node.TheVariants.{Always, Never, Equal, Not, Both, Either}
-use Rattle.condition.proofs.Growing.{grown_self, grown_trans, grown_cond}
+use Rattle.condition.proofs.Growing.{grown_trans, grown_cond}
 use Rattle.condition.proofs.Decoding.{at_decoded}
 use Rattle.evaluate.specs.Filling.{Filling, holds}
 use Rattle.evaluate.specs.Values.{value_of}
 use Rattle.evaluate.proofs.Holding.{holds_never}
 use Rattle.evaluate.proofs.Worked.{by_node}
-use Rattle.decide.specs.Folding.{Begun, Tidy, Draws, truth, Built, place_in, renamed, Folds}
+use Rattle.decide.specs.Folding.{Begun, Draws, truth, Built, place_in, renamed, Folds}
 use Rattle.decide.specs.Reaching.{EachPlace, marked, Closed}
 use Rattle.decide.proofs.Counted.{counted_yes, counted_more}
 use Rattle.decide.proofs.Simpler.{truth_never}
@@ -24,22 +24,6 @@ each_map (Equal a b) P Q f h = tt
 each_map (Not a) P Q f h = f a h
 each_map (Both a b) P Q f h = (f a h.0, f b h.1)
 each_map (Either a b) P Q f h = (f a h.0, f b h.1)
-
-each_renamed : (f : ℕ → ℕ) (n : Node) (P : ℕ → Type 0) → EachPlace n (λ j. P (f j)) → EachPlace (renamed f n) P
-each_renamed f Always P h = tt
-each_renamed f Never P h = tt
-each_renamed f (Equal a b) P h = tt
-each_renamed f (Not a) P h = h
-each_renamed f (Both a b) P h = h
-each_renamed f (Either a b) P h = h
-
-pub named_renamed : (f : ℕ → ℕ) (n : Node) → Named n → Named (renamed f n)
-named_renamed f Always h = tt
-named_renamed f Never h = tt
-named_renamed f (Equal a b) h = h
-named_renamed f (Not a) h = tt
-named_renamed f (Both a b) h = tt
-named_renamed f (Either a b) h = tt
 
 draws_renamed : (f : ℕ → ℕ) (n : Node) (ns gs : List ℕ) → Draws n ns gs → Draws (renamed f n) ns gs
 draws_renamed f Always ns gs h = tt
@@ -58,27 +42,13 @@ value_renamed v f (Not a) bs cs h = ap not h
 value_renamed v f (Both a b) bs cs h = rw (h.0, h.1) refl
 value_renamed v f (Either a b) bs cs h = rw (h.0, h.1) refl
 
--- nothing folded yet
-pub folds_none : (nodes : List ℕ) (marks : List Bool) (xs ps : List ℕ) → Begun xs → Tidy xs → Folds nodes 0 marks xs xs ps
-folds_none nodes marks xs ps b t = record {
-  grown = grown_self xs b.fits;
-  few = omega arith;
-  begun = b;
-  tidy = t;
-  stand = λ i l m. absurd (omega arith);
-  value = λ i l m v. absurd (omega arith);
-  covered = λ ns gs c d. c;
-}
-
 -- the node that was reached, over places of the cone
-module _ (nodes : List ℕ) (i n : ℕ) (marks : List Bool) (xs ys ps : List ℕ) (folds : Folds nodes i marks xs ys ps) (closed : Closed nodes n marks) (low : i < n) where
+module _ (nodes : List ℕ) (i n : ℕ) (marks : List Bool) (xs ys ps : List ℕ) (begun : Begun ys) (folds : Folds nodes i marks xs ys ps) (closed : Closed nodes n marks) (low : i < n) where
   -- one that is not marked
   pub folds_past : get_or marks i false ≡ false → Folds nodes (i + 1) marks xs ys ps
   folds_past e = record {
     grown = folds.grown;
     few = omega (arith, folds.few, counted_more i (i + 1) (marked marks) (omega arith));
-    begun = folds.begun;
-    tidy = folds.tidy;
     stand = λ k l m. elim (cases_lt k i) [
       | inl p ↦ folds.stand k p m
       | inr p ↦ let q : k ≡ i = omega arith in absurd (both_ways (get_or marks k false) (rw q e) m)
@@ -92,21 +62,10 @@ module _ (nodes : List ℕ) (i n : ℕ) (marks : List Bool) (xs ys ps : List ℕ
 
   -- one that is
   module _ (set_here : get_or marks i false ≡ true) where
-    place_stands : (j : ℕ) → (j < i → get_or marks j false ≡ true) → place_in i ps j < count ys
-    place_stands j h = elim (cases_lt j i) [
-      | inl l ↦ rw (lt-ltb j i l) (folds.stand j l (h l))
-      | inr l ↦ rw (le-ltb j i l) folds.begun.two
-    ]
-
-    pub places_stand : EachPlace (renamed (place_in i ps) (decoded nodes i)) (λ j. j < count ys)
-    places_stand =
-        each_renamed (place_in i ps) (decoded nodes i) (λ j. j < count ys)
-        (each_map (decoded nodes i) (λ j. j < i → get_or marks j false ≡ true) (λ j. place_in i ps j < count ys) place_stands (closed i low set_here))
-
     place_says : (v : Filling) (j : ℕ) → (j < i → get_or marks j false ≡ true) → truth ys v (place_in i ps j) ≡ holds v (earlier i (cond_at nodes) j)
     place_says v j h = elim (cases_lt j i) [
       | inl l ↦ rw (lt-ltb j i l) (folds.value j l (h l) v)
-      | inr l ↦ rw (le-ltb j i l) (truth_never ys folds.begun v ∙ sym (holds_never v))
+      | inr l ↦ rw (le-ltb j i l) (truth_never ys begun v ∙ sym (holds_never v))
     ]
 
     module _ (stands : i < count nodes) (named : Named (decoded nodes i)) (zs : List ℕ) (r : ℕ) (built : Built ys zs (renamed (place_in i ps) (decoded nodes i)) r) (long : i < length ps) where
@@ -122,8 +81,6 @@ module _ (nodes : List ℕ) (i n : ℕ) (marks : List Bool) (xs ys ps : List ℕ
       folds_more = record {
         grown = grown_trans xs ys zs folds.grown built.grown;
         few = omega (arith, folds.few, built.few, counted_yes i (marked marks) set_here);
-        begun = built.begun;
-        tidy = built.tidy;
         stand = λ k l m. elim (cases_lt k i) [
           | inl p ↦ let ne : k ≢ i = omega arith in rw get_or-set_other (omega (arith, folds.stand k p m, built.grown.more))
           | inr p ↦ let q : k ≡ i = omega arith in rw (q, get_or-set_same ps i r 0 long) built.stands

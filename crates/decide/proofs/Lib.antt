@@ -8,7 +8,7 @@ pub mod Rising
 pub mod Noted
 pub mod Agreeing
 pub mod Surveyed
-pub mod Cone
+pub mod Added
 pub mod Simpler
 pub mod Folded
 pub mod Least

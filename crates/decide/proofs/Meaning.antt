@@ -16,29 +16,25 @@ use Rattle.list.specs.Lists.{Line}
 use Rattle.decide.specs.Deciding.{gives, shows, agrees, deciding, cells_in_lines}
 use Rattle.decide.specs.Matching.{cells_at, node_at}
 use Rattle.decide.specs.Reaching.{Covers}
-use Rattle.decide.specs.Folding.{Begun, Tidy, Built}
+use Rattle.decide.specs.Folding.{Begun, Built}
 use Rattle.decide.specs.Showing.{Means, Placed, row_cells, nodes_for, deciding_in}
 use Rattle.decide.proofs.Coverage.{covers_both, covers_left, covers_right}
 use Rattle.decide.proofs.Agreeing.{drop_back, cells_none, cells_back, lines_none, lines_back}
 
 -- always and never stand in every cone
-pub means_always : (xs : List ℕ) → Begun xs → Tidy xs → Means xs xs 0 [] always 0
-means_always xs b t = record {
+pub means_always : (xs : List ℕ) → Begun xs → Means xs xs 0 [] always 0
+means_always xs b = record {
   grown = grown_self xs b.fits;
   few = omega arith;
-  begun = b;
-  tidy = t;
   stands = omega (arith, b.two);
   value = λ v. ap (holds v) b.first;
   covered = λ ns gs c i. c;
 }
 
-pub means_never : (xs : List ℕ) → Begun xs → Tidy xs → Means xs xs 0 [] never 1
-means_never xs b t = record {
+pub means_never : (xs : List ℕ) → Begun xs → Means xs xs 0 [] never 1
+means_never xs b = record {
   grown = grown_self xs b.fits;
   few = omega arith;
-  begun = b;
-  tidy = t;
   stands = omega (arith, b.two);
   value = λ v. ap (holds v) b.second;
   covered = λ ns gs c i. c;
@@ -52,8 +48,6 @@ pub means_equal : (xs ys zs us : List ℕ) (most : ℕ) (cs : List conditions.Ce
 means_equal xs ys zs us most cs c r m a b e f p q ds split = record {
   grown = grown_trans xs ys us m.grown (grown_trans ys zs us p.grown q.grown);
   few = omega (arith, m.few, p.few, q.few);
-  begun = q.begun;
-  tidy = q.tidy;
   stands = q.stands;
   value = λ v.
       let g : cond_at zs r ≡ cond_at ys r = grown_cond ys zs p.grown r m.stands in
@@ -71,8 +65,6 @@ pub means_line : (xs ys zs us ts : List ℕ) (most more : ℕ) (cs es : List con
 means_line xs ys zs us ts most more cs es c g h r p e f d m s k o b i ds split = record {
   grown = grown_trans xs ys ts m.grown (grown_trans ys zs ts o.grown (grown_trans zs us ts b.grown i.grown));
   few = omega (arith, m.few, o.few, b.few, i.few);
-  begun = i.begun;
-  tidy = i.tidy;
   stands = i.stands;
   value = λ v.
       let x : cond_at zs p ≡ cond_at xs p = grown_cond xs zs (grown_trans xs ys zs m.grown o.grown) p s in
@@ -97,11 +89,11 @@ covers_pair ns gs c d cs ds i =
 pub record Giving (xs ys : List ℕ) (line row : List ℕ) (a r : ℕ) : Type 0 where
   pub means : Means xs ys (2 * (length row - a)) (drop a (cells_in (length row) (drop 1 line)) ++ map known (drop a row)) (gives (drop a (cells_in (length row) (drop 1 line))) (drop a row)) r
 
-pub giving_none : (xs line row : List ℕ) → Begun xs → Tidy xs → Giving xs xs line row (length row) 0
+pub giving_none : (xs line row : List ℕ) → Begun xs → Giving xs xs line row (length row) 0
 unfolding gives
-giving_none xs line row b t =
+giving_none xs line row b =
     let e : 2 * (length row - length row) ≡ 0 = omega arith in
-    record { means = rw (e, cells_none (length row) (drop 1 line), drop_all (length row) row (omega arith)) (means_always xs b t) }
+    record { means = rw (e, cells_none (length row) (drop 1 line), drop_all (length row) row (omega arith)) (means_always xs b) }
 
 pub giving_more : (xs ys zs us line row : List ℕ) (a r e f : ℕ) (d : Cell) → 0 < a → a ≤ length row → Giving xs ys line row a r →
     cell_of d ≡ cell_in (get_or line (1 + 2 * (a - 1)) 0) (get_or line (2 + 2 * (a - 1)) 0) →
@@ -139,28 +131,22 @@ from_more nodes answer n row i p l h = rw (lines_back nodes n (length row) i ans
 
 pub record Showing (xs ys answer row places : List ℕ) (n i r : ℕ) : Type 0 where
   pub grown : Grown xs ys
-  pub begun : Begun ys
-  pub tidy : Tidy ys
   pub stands : r < count ys
   pub few : (nodes : List ℕ) → count ys ≤ count xs + nodes_for (length row) (deciding_from nodes answer n row i)
   pub means : (nodes : List ℕ) → Placed xs nodes answer row places n →
       Means xs ys (nodes_for (length row) (deciding_from nodes answer n row i)) (row_cells (deciding_from nodes answer n row i) row) (shows (deciding_from nodes answer n row i) row) r
 
-pub showing_none : (xs answer row places : List ℕ) (n : ℕ) → Begun xs → Tidy xs → Showing xs xs answer row places n n 1
+pub showing_none : (xs answer row places : List ℕ) (n : ℕ) → Begun xs → Showing xs xs answer row places n n 1
 unfolding shows cells_in_lines
-showing_none xs answer row places n b t =
-    let m : Means xs xs 0 [] never 1 = means_never xs b t in
+showing_none xs answer row places n b =
+    let m : Means xs xs 0 [] never 1 = means_never xs b in
     record {
       grown = m.grown;
-      begun = b;
-      tidy = t;
       stands = m.stands;
       few = λ nodes. omega arith;
       means = λ nodes p. rw (from_none nodes answer n row) (record {
         grown = m.grown;
         few = omega arith;
-        begun = b;
-        tidy = t;
         stands = m.stands;
         value = m.value;
         covered = λ ns gs c i. c;
@@ -171,8 +157,6 @@ pub showing_pass : (xs ys answer row places : List ℕ) (n i r : ℕ) → 0 < i 
     Showing xs ys answer row places n i r → Showing xs ys answer row places n (i - 1) r
 showing_pass xs ys answer row places n i r p l h s = record {
   grown = s.grown;
-  begun = s.begun;
-  tidy = s.tidy;
   stands = s.stands;
   few = λ nodes. rw (from_pass nodes answer n row i p l h) (s.few nodes);
   means = λ nodes o. rw (from_pass nodes answer n row i p l h) (s.means nodes o);
@@ -195,8 +179,6 @@ pub showing_more : (xs ys zs us ts answer row places : List ℕ) (n i r e f d : 
 unfolding shows cells_in_lines
 showing_more xs ys zs us ts answer row places n i r e f d p l h k s g b o = record {
   grown = grown_trans xs ys ts s.grown (grown_trans ys zs ts g.grown (grown_trans zs us ts b.grown o.grown));
-  begun = o.begun;
-  tidy = o.tidy;
   stands = o.stands;
   few = λ nodes. rw (from_more nodes answer n row i p l h) (omega (arith, s.few nodes, g.few, b.few, o.few, suc-mul (length (deciding_from nodes answer n row i)) (2 * length row + 2)));
   means = λ nodes q.

@@ -15,30 +15,10 @@ use Rattle.evaluate.specs.Filling.{Filling, holds, fill_cell}
 use Rattle.evaluate.specs.Values.{value_of}
 use Rattle.evaluate.proofs.Holding.{holds_always, holds_never, holds_not}
 use Rattle.decide.specs.Reaching.{Covers}
-use Rattle.decide.specs.Folding.{Begun, Neat, Tidy, Draws, truth, Says, StandsFor, ComesTo}
-use Rattle.decide.specs.declared.simplifying.Simple.{Simple}
-use Rattle.decide.specs.declared.simplifying.Simple.TheVariants.{Place, New}
-use Rattle.decide.proofs.Cone.{neat_behind}
-
-and_self : (x : Bool) → x ≡ (x && x)
-and_self true = refl
-and_self false = refl
-
-or_self : (x : Bool) → x ≡ (x || x)
-or_self true = refl
-or_self false = refl
-
-and_swap : (x y : Bool) → (x && y) ≡ (y && x)
-and_swap true true = refl
-and_swap true false = refl
-and_swap false true = refl
-and_swap false false = refl
-
-or_swap : (x y : Bool) → (x || y) ≡ (y || x)
-or_swap true true = refl
-or_swap true false = refl
-or_swap false true = refl
-or_swap false false = refl
+use Rattle.decide.specs.Folding.{Begun, Neat, Tidy, truth, joined, vanishing, settling, Says, StandsFor}
+use Rattle.decide.specs.declared.simplifying.Join.{Join}
+use Rattle.decide.specs.declared.simplifying.Join.TheVariants.{All, Any}
+use Rattle.decide.proofs.Added.{neat_behind}
 
 and_not : (x : Bool) → false ≡ (x && not x)
 and_not true = refl
@@ -47,12 +27,6 @@ and_not false = refl
 or_not : (x : Bool) → true ≡ (x || not x)
 or_not true = refl
 or_not false = refl
-
-not_not : (x y : Bool) → x ≡ not y → y ≡ not x
-not_not true true e = e
-not_not true false e = refl
-not_not false true e = refl
-not_not false false e = e
 
 -- the constants of a cone
 module _ (xs : List ℕ) (b : Begun xs) where
@@ -74,48 +48,24 @@ module _ (xs : List ℕ) (b : Begun xs) where
   pub not_never : (a : ℕ) → a ≡ 1 → Says xs (Not a) 0
   not_never a e = says_always (Not a) (λ v. ap (λ j. not (truth xs v j)) e ∙ ap not (truth_never v))
 
-  pub both_always : (a c : ℕ) → a ≡ 0 → c < count xs → Says xs (Both a c) c
-  both_always a c e l = record { stands = l; value = λ v. sym (ap (λ j. truth xs v j && truth xs v c) e ∙ ap (λ t. t && truth xs v c) (truth_always v)) }
+  -- one constant changes nothing, the other settles what it is joined to, and so does a condition with its negation
+  pub join_vanishing : (j : Join) (a c : ℕ) → a ≡ vanishing j → c < count xs → Says xs (joined j a c) c
+  join_vanishing All a c e l = record { stands = l; value = λ v. sym (ap (λ k. truth xs v k && truth xs v c) e ∙ ap (λ t. t && truth xs v c) (truth_always v)) }
+  join_vanishing Any a c e l = record { stands = l; value = λ v. sym (ap (λ k. truth xs v k || truth xs v c) e ∙ ap (λ t. t || truth xs v c) (truth_never v)) }
 
-  pub both_never : (a c : ℕ) → a ≡ 1 → Says xs (Both a c) 1
-  both_never a c e = says_never (Both a c) (λ v. ap (λ j. truth xs v j && truth xs v c) e ∙ ap (λ t. t && truth xs v c) (truth_never v))
+  pub join_settling : (j : Join) (a c : ℕ) → a ≡ settling j → Says xs (joined j a c) (settling j)
+  join_settling All a c e = says_never (Both a c) (λ v. ap (λ k. truth xs v k && truth xs v c) e ∙ ap (λ t. t && truth xs v c) (truth_never v))
+  join_settling Any a c e = says_always (Either a c) (λ v. ap (λ k. truth xs v k || truth xs v c) e ∙ ap (λ t. t || truth xs v c) (truth_always v))
 
-  pub both_negated : (a c : ℕ) → ((v : Filling) → truth xs v c ≡ not (truth xs v a)) → Says xs (Both a c) 1
-  both_negated a c h = says_never (Both a c) (λ v. ap (λ t. truth xs v a && t) (h v) ∙ sym (and_not (truth xs v a)))
-
-  pub either_always : (a c : ℕ) → a ≡ 0 → Says xs (Either a c) 0
-  either_always a c e = says_always (Either a c) (λ v. ap (λ j. truth xs v j || truth xs v c) e ∙ ap (λ t. t || truth xs v c) (truth_always v))
-
-  pub either_never : (a c : ℕ) → a ≡ 1 → c < count xs → Says xs (Either a c) c
-  either_never a c e l = record { stands = l; value = λ v. sym (ap (λ j. truth xs v j || truth xs v c) e ∙ ap (λ t. t || truth xs v c) (truth_never v)) }
-
-  pub either_negated : (a c : ℕ) → ((v : Filling) → truth xs v c ≡ not (truth xs v a)) → Says xs (Either a c) 0
-  either_negated a c h = says_always (Either a c) (λ v. ap (λ t. truth xs v a || t) (h v) ∙ sym (or_not (truth xs v a)))
+  pub join_negated : (j : Join) (a c : ℕ) → ((v : Filling) → truth xs v c ≡ not (truth xs v a)) → Says xs (joined j a c) (settling j)
+  join_negated All a c h = says_never (Both a c) (λ v. ap (λ t. truth xs v a && t) (h v) ∙ sym (and_not (truth xs v a)))
+  join_negated Any a c h = says_always (Either a c) (λ v. ap (λ t. truth xs v a || t) (h v) ∙ sym (or_not (truth xs v a)))
 
   pub equal_same : (a c : Cell) → a ≡ c → Says xs (Equal a c) 0
   equal_same a c e = says_always (Equal a c) (λ v. eq-eqb _ _ (ap (λ t. fill_cell v (cell_of t)) e))
 
   pub equal_apart : (a c : Cell) (m n : ℕ) → a ≡ Number m → c ≡ Number n → (m ≡ n → ⊥) → Says xs (Equal a c) 1
   equal_apart a c m n p q h = rw (p, q) (says_never (Equal (Number m) (Number n)) (λ v. ne_eqb m n h))
-
--- one place twice
-pub both_self : (xs : List ℕ) (a c : ℕ) → a ≡ c → a < count xs → Says xs (Both a c) a
-both_self xs a c e l = record { stands = l; value = λ v. and_self (truth xs v a) ∙ ap (λ j. truth xs v a && truth xs v j) e }
-
-pub either_self : (xs : List ℕ) (a c : ℕ) → a ≡ c → a < count xs → Says xs (Either a c) a
-either_self xs a c e l = record { stands = l; value = λ v. or_self (truth xs v a) ∙ ap (λ j. truth xs v a || truth xs v j) e }
-
--- a node that holds where another does comes to the same
-turned : (xs : List ℕ) (n m : Node) (s : Simple) → ((v : Filling) → value_of v n (truth xs v) ≡ value_of v m (truth xs v)) →
-    ((ns gs : List ℕ) → Draws m ns gs → Draws n ns gs) → ComesTo xs n s → ComesTo xs m s
-turned xs n m (Place r) e d h = record { stands = h.stands; value = λ v. h.value v ∙ e v }
-turned xs n m (New k) e d h = record { neat = h.neat; named = h.named; value = λ v. h.value v ∙ e v; draws = λ ns gs p. h.draws ns gs (d ns gs p) }
-
-pub both_turned : (xs : List ℕ) (a c : ℕ) (s : Simple) → ComesTo xs (Both c a) s → ComesTo xs (Both a c) s
-both_turned xs a c s h = turned xs (Both c a) (Both a c) s (λ v. and_swap (truth xs v c) (truth xs v a)) (λ ns gs p. tt) h
-
-pub either_turned : (xs : List ℕ) (a c : ℕ) (s : Simple) → ComesTo xs (Either c a) s → ComesTo xs (Either a c) s
-either_turned xs a c s h = turned xs (Either c a) (Either a c) s (λ v. or_swap (truth xs v c) (truth xs v a)) (λ ns gs p. tt) h
 
 within_turn : (j k : ℕ) (gs : List ℕ) → Within (j ∷ (k ∷ [])) gs → Within (k ∷ (j ∷ [])) gs
 unfolding Within has
@@ -150,11 +100,7 @@ equal_turned xs a c h m = record {
 }
 
 -- what a negation says
-pub negation : (xs : List ℕ) → Tidy xs → (a c : ℕ) → 2 ≤ a → a < count xs → Not c ≡ decoded xs a → (c < a) × ((v : Filling) → truth xs v a ≡ not (truth xs v c))
-negation xs t a c p q e =
+pub negation : (xs : List ℕ) → Tidy xs → (a c : ℕ) → 2 ≤ a → a < count xs → Not c ≡ decoded xs a → (v : Filling) → truth xs v a ≡ not (truth xs v c)
+negation xs t a c p q e v =
     let n : Neat a (Not c) = subst (Neat a) (sym e) (t a p q) in
-    let s = stands_means xs a (Not c) (record { stands = q; after = neat_behind a (Not c) n; same = sym e }) in
-    (n.1, λ v. ap (holds v) s ∙ holds_not v (cond_at xs c))
-
-pub not_negated : (xs : List ℕ) (a c : ℕ) → c < count xs → ((v : Filling) → truth xs v a ≡ not (truth xs v c)) → Says xs (Not a) c
-not_negated xs a c l h = record { stands = l; value = λ v. not_not (truth xs v a) (truth xs v c) (h v) }
+    ap (holds v) (stands_means xs a (Not c) (record { stands = q; after = neat_behind a (Not c) n; same = sym e })) ∙ holds_not v (cond_at xs c)

@@ -4,9 +4,13 @@
 --   Neat i n                 the node n at place i: no constant, of two cells that may be equal or not, in one order, behind what it
 --                            names, and it names no constant
 --   Tidy cone                every node of the cone behind the first two is neat
+--   Room cone k              there is room for k nodes more
+--   Over cone n              all places that the node n names stand in the cone
 --   Covered cone ns gs       the cells of every condition of the cone have numbers of ns and gaps of gs alone
 --   Draws n ns gs            so do the cells that the node n itself compares
 --   truth xs v j             whether the condition at place j of the store xs holds under v
+--   joined j a b             the node that joins the conditions at places a and b: that all of them hold, or that any does
+--   vanishing j, settling j  the place of the constant that changes nothing in such a node, and of the one that settles it
 --   Says xs n r              the condition at place r of a cone holds where the node n would
 --   StandsFor xs n m        the neat node m holds where the node n does
 --   ComesTo xs n s          s says so of a place, or of a node
@@ -26,7 +30,9 @@ use Rattle.condition.specs.declared.Node.TheVariants.{Always, Never, Equal, Not,
 use Rattle.evaluate.specs.Filling.{Filling, holds}
 use Rattle.evaluate.specs.Values.{value_of}
 use Rattle.decide.specs.Counting.{counted}
-use Rattle.decide.specs.Reaching.{marked, Covers}
+use Rattle.decide.specs.Reaching.{EachPlace, marked, Covers}
+use Rattle.decide.specs.declared.simplifying.Join.{Join}
+use Rattle.decide.specs.declared.simplifying.Join.TheVariants.{All, Any}
 use Rattle.decide.specs.declared.simplifying.Simple.{Simple}
 use Rattle.decide.specs.declared.simplifying.Simple.TheVariants.{Place, New}
 
@@ -35,6 +41,7 @@ pub record Begun (cone : List ℕ) : Type 0 where
   pub two : 2 ≤ count cone
   pub first : cond_at cone 0 ≡ always
   pub second : cond_at cone 1 ≡ never
+  deriving IsProp as Begun_prop
 
 -- a gap before a number, the smaller of two gaps first; the smaller of two places first
 abbrev pub Neat : ℕ → Node → Type 0
@@ -50,6 +57,12 @@ Neat i (Either a b) = (2 ≤ a) × (a < b) × (b < i)
 abbrev pub Tidy : List ℕ → Type 0
 Tidy cone = (i : ℕ) → 2 ≤ i → i < count cone → Neat i (decoded cone i)
 
+abbrev pub Room : List ℕ → ℕ → Type 0
+Room cone k = 1 + 5 * (count cone + k) ≤ length cone
+
+abbrev pub Over : List ℕ → Node → Type 0
+Over cone n = EachPlace n (λ j. j < count cone)
+
 abbrev pub Covered : List ℕ → List ℕ → List ℕ → Type 0
 Covered cone ns gs = (j : ℕ) → j < count cone → Covers ns gs (cells_of (cond_at cone j))
 
@@ -63,6 +76,18 @@ Draws (Either a b) ns gs = Unit {0}
 
 abbrev pub truth : List ℕ → Filling → ℕ → Bool
 truth xs v j = holds v (cond_at xs j)
+
+abbrev pub joined : Join → ℕ → ℕ → Node
+joined All a b = Both a b
+joined Any a b = Either a b
+
+abbrev pub vanishing : Join → ℕ
+vanishing All = 0
+vanishing Any = 1
+
+abbrev pub settling : Join → ℕ
+settling All = 1
+settling Any = 0
 
 pub record Says (xs : List ℕ) (n : Node) (r : ℕ) : Type 0 where
   pub stands : r < count xs
@@ -81,8 +106,6 @@ ComesTo xs n (New m) = StandsFor xs n m
 pub record Built (xs ys : List ℕ) (n : Node) (r : ℕ) : Type 0 where
   pub grown : Grown xs ys
   pub few : count ys ≤ count xs + 1
-  pub begun : Begun ys
-  pub tidy : Tidy ys
   pub stands : r < count ys
   pub value : (v : Filling) → holds v (cond_at ys r) ≡ value_of v n (truth xs v)
   -- no other numbers and gaps than there were, and those of the node
@@ -106,8 +129,6 @@ DrawsAll nodes n marks ns gs = (i : ℕ) → i < n → slice_index_or marks i fa
 pub record Folds (nodes : List ℕ) (n : ℕ) (marks : List Bool) (xs ys ps : List ℕ) : Type 0 where
   pub grown : Grown xs ys
   pub few : count ys ≤ count xs + counted n (marked marks)
-  pub begun : Begun ys
-  pub tidy : Tidy ys
   pub stand : (i : ℕ) → i < n → slice_index_or marks i false ≡ true → slice_index ps i < count ys
   pub value : (i : ℕ) → i < n → slice_index_or marks i false ≡ true → (v : Filling) → holds v (cond_at ys (slice_index ps i)) ≡ holds v (cond_at nodes i)
   -- no other numbers and gaps than there were, and those of the marked nodes

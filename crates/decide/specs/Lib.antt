@@ -6,6 +6,8 @@ pub mod Matching
 pub mod Standing
 pub mod Surveying
 pub mod Folding
+pub mod OneWay
+pub mod Building
 pub mod Showing
 pub mod Might
 pub mod Bit

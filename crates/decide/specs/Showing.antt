@@ -14,14 +14,12 @@ use Rattle.list.specs.Lists.{Line, Row}
 use Rattle.list.specs.Layout.{lines_in}
 use Rattle.decide.specs.Deciding.{agrees, deciding, cells_in_lines}
 use Rattle.decide.specs.Matching.{cells_at, node_at}
-use Rattle.decide.specs.Folding.{Begun, Tidy, Covered}
+use Rattle.decide.specs.Folding.{Covered}
 use Rattle.decide.specs.Reaching.{Covers}
 
 pub record Means (xs ys : List ℕ) (most : ℕ) (cs : List Cell) (c : Cond) (r : ℕ) : Type 0 where
   pub grown : Grown xs ys
   pub few : count ys ≤ count xs + most
-  pub begun : Begun ys
-  pub tidy : Tidy ys
   pub stands : r < count ys
   pub value : (v : Filling) → holds v (cond_at ys r) ≡ holds v c
   pub covered : (ns gs : List ℕ) → Covered xs ns gs → Covers ns gs cs → Covered ys ns gs

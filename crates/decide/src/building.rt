@@ -1,91 +1,101 @@
 // Conditions built in a cone out of those that stand there: simplified, and each kept once.
-//
-// A cone is a store, of any count of nodes, that begins with always and never.
-ghost use Rattle.std.specs.Prelude.{◌≡◌, ℕ, ◌+◌, ◌*◌, ◌<◌, ◌≤◌, true, List, length, slice_index};
-ghost use Rattle.condition.specs.Store.{count, has_name};
-ghost use Rattle.condition.specs.Shapes.{cell_of, Named};
-ghost use Rattle.condition.specs.declared.Node.TheVariants.{Equal, Not, Both, Either};
-ghost use Rattle.decide.specs.Folding.{Begun, Tidy, Covered, Built};
-ghost use Rattle.decide.specs.Reaching.{EachPlace};
+ghost use Rattle.std.specs.Prelude.{◌<◌, length};
+ghost use Rattle.decide.specs.Folding.{Begun, Tidy};
+ghost use Rattle.decide.specs.OneWay.{begun_once, tidy_once};
 
-use crate::interning::intern;
-use crate::simplifying::{Simple, simplify};
+use crate::simplifying::Simple;
 use condition::{Cell, Node, add};
 
-// Makes a slice a cone with always and never alone.
-pub fn begin(cone: &mut [u64])
-    requires { 11 ≤ length cone.old }
-    ensures begun { Begun cone.new }
-    ensures count { count cone.new ≡ 2 }
-    ensures tidy { Tidy cone.new }
-    ensures covered { (ns gs : List ℕ) → Covered cone.new ns gs }
-    ensures past { (k : ℕ) → 11 ≤ k → slice_index cone.new k ≡ slice_index cone.old k }
-{
-    cone[0] = 0;
-    add(cone, Node::Always);
-    add(cone, Node::Never);
+// A store, of any count of nodes, that begins with always and never, and an index of its nodes.
+//
+// The index is a slice of places by hash, 0 where there is none. It is only a hint: what it holds is checked against the store. So any
+// slice may serve; one of zeros, twice as long as the nodes are many, leaves hardly a node standing twice.
+//
+// Each slice is lent for a lifetime of its own: with one for both, the prover would not tell the owner what its store holds afterwards.
+#[derive(Drop)]
+pub struct Cone<'n, 'i> {
+    pub nodes: &'n mut [u64],
+    pub index: &'i mut [u64],
+    pub ghost begun: { Begun nodes.now } by { begun_once nodes.now },
+    pub ghost tidy: { Tidy nodes.now } by { tidy_once nodes.now },
+    pub ghost indexed: { 0 < length index.now },
 }
 
-// The place of a condition that holds where a node over places of the cone does.
-pub fn build(cone: &mut [u64], index: &mut [u64], node: Node) -> u64
-    requires begun { Begun cone.old }
-    requires tidy { Tidy cone.old }
-    requires named { Named node }
-    requires places { EachPlace node (λ j. j < count cone.old) }
-    requires room { 6 + 5 * count cone.old ≤ length cone.old }
-    requires index { 0 < length index.old }
-    ensures { Built cone.old cone.new node result }
-{
-    match simplify(cone, node) {
-        Simple::Place(place) => place,
-        Simple::New(simple) => intern(cone, index, simple),
+impl<'n, 'i> Cone<'n, 'i> {
+    ghost use Rattle.std.specs.Prelude.{◌≡◌, ℕ, ◌+◌, ◌*◌, ◌<◌, ◌≤◌, true, List, length, slice_index};
+    ghost use Rattle.condition.specs.Store.{count, has_name};
+    ghost use Rattle.condition.specs.Shapes.{cell_of, Named};
+    ghost use Rattle.condition.specs.declared.Node.TheVariants.{Equal, Not, Both, Either};
+    ghost use Rattle.decide.specs.Folding.{Covered, Over, Room, Built};
+    ghost use Rattle.decide.specs.Building.{Same};
+
+    // A cone with always and never alone, in a slice.
+    pub fn begin(nodes: &'n mut [u64], index: &'i mut [u64]) -> Cone<'n, 'i>
+        requires long { 11 ≤ length nodes.old }
+        requires index { 0 < length index.old }
+        ensures same { result.nodes.ghost_name ≡ nodes.entry.ghost_name }
+        ensures count { count result.nodes.now ≡ 2 }
+        ensures covered { (ns gs : List ℕ) → Covered result.nodes.now ns gs }
+        ensures long { length result.nodes.now ≡ length nodes.old }
+        ensures past { (k : ℕ) → 11 ≤ k → slice_index result.nodes.now k ≡ slice_index nodes.old k }
+    {
+        nodes[0] = 0;
+        add(nodes, Node::Always);
+        add(nodes, Node::Never);
+        Cone { nodes, index }
     }
-}
 
-// The place of the condition that two cells are equal.
-pub fn equal_of(cone: &mut [u64], index: &mut [u64], a: Cell, b: Cell) -> u64
-    requires begun { Begun cone.old }
-    requires tidy { Tidy cone.old }
-    requires named { (has_name (cell_of a) ≡ true) × (has_name (cell_of b) ≡ true) }
-    requires room { 6 + 5 * count cone.old ≤ length cone.old }
-    requires index { 0 < length index.old }
-    ensures { Built cone.old cone.new (Equal a b) result }
-{
-    build(cone, index, Node::Equal(a, b))
-}
+    // The place of a condition that holds where a node over places of the cone does.
+    pub fn build(&mut self, node: Node) -> u64
+        requires named { Named node }
+        requires over { Over self.old.nodes.now node }
+        requires room { Room self.old.nodes.now 1 }
+        ensures same { Same self.old self.new }
+        ensures built { Built self.old.nodes.now self.new.nodes.now node result }
+    {
+        match self.simplify(node) {
+            Simple::Place(place) => place,
+            Simple::New(simple) => self.intern(simple),
+        }
+    }
 
-// The place of the condition that the one at a does not hold.
-pub fn not_of(cone: &mut [u64], index: &mut [u64], a: u64) -> u64
-    requires begun { Begun cone.old }
-    requires tidy { Tidy cone.old }
-    requires stands { a < count cone.old }
-    requires room { 6 + 5 * count cone.old ≤ length cone.old }
-    requires index { 0 < length index.old }
-    ensures { Built cone.old cone.new (Not a) result }
-{
-    build(cone, index, Node::Not(a))
-}
+    // The place of the condition that two cells are equal.
+    pub fn equal_of(&mut self, a: Cell, b: Cell) -> u64
+        requires named { (has_name (cell_of a) ≡ true) × (has_name (cell_of b) ≡ true) }
+        requires room { Room self.old.nodes.now 1 }
+        ensures same { Same self.old self.new }
+        ensures built { Built self.old.nodes.now self.new.nodes.now (Equal a b) result }
+    {
+        self.build(Node::Equal(a, b))
+    }
 
-// The place of the condition that those at a and b hold.
-pub fn both_of(cone: &mut [u64], index: &mut [u64], a: u64, b: u64) -> u64
-    requires begun { Begun cone.old }
-    requires tidy { Tidy cone.old }
-    requires stand { (a < count cone.old) × (b < count cone.old) }
-    requires room { 6 + 5 * count cone.old ≤ length cone.old }
-    requires index { 0 < length index.old }
-    ensures { Built cone.old cone.new (Both a b) result }
-{
-    build(cone, index, Node::Both(a, b))
-}
+    // The place of the condition that the one at a does not hold.
+    pub fn not_of(&mut self, a: u64) -> u64
+        requires stands { a < count self.old.nodes.now }
+        requires room { Room self.old.nodes.now 1 }
+        ensures same { Same self.old self.new }
+        ensures built { Built self.old.nodes.now self.new.nodes.now (Not a) result }
+    {
+        self.build(Node::Not(a))
+    }
 
-// The place of the condition that one of those at a and b holds.
-pub fn either_of(cone: &mut [u64], index: &mut [u64], a: u64, b: u64) -> u64
-    requires begun { Begun cone.old }
-    requires tidy { Tidy cone.old }
-    requires stand { (a < count cone.old) × (b < count cone.old) }
-    requires room { 6 + 5 * count cone.old ≤ length cone.old }
-    requires index { 0 < length index.old }
-    ensures { Built cone.old cone.new (Either a b) result }
-{
-    build(cone, index, Node::Either(a, b))
+    // The place of the condition that those at a and b hold.
+    pub fn both_of(&mut self, a: u64, b: u64) -> u64
+        requires stand { (a < count self.old.nodes.now) × (b < count self.old.nodes.now) }
+        requires room { Room self.old.nodes.now 1 }
+        ensures same { Same self.old self.new }
+        ensures built { Built self.old.nodes.now self.new.nodes.now (Both a b) result }
+    {
+        self.build(Node::Both(a, b))
+    }
+
+    // The place of the condition that one of those at a and b holds.
+    pub fn either_of(&mut self, a: u64, b: u64) -> u64
+        requires stand { (a < count self.old.nodes.now) × (b < count self.old.nodes.now) }
+        requires room { Room self.old.nodes.now 1 }
+        ensures same { Same self.old self.new }
+        ensures built { Built self.old.nodes.now self.new.nodes.now (Either a b) result }
+    {
+        self.build(Node::Either(a, b))
+    }
 }

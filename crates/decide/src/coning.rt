@@ -10,16 +10,15 @@ ghost use Rattle.decide.specs.Reaching.{marked, Closed, AllCovered};
 ghost use Rattle.decide.specs.Showing.{nodes_for, deciding_in};
 ghost use Rattle.decide.specs.Surveying.{numbers_met, gaps_met};
 
-use crate::building::begin;
-use crate::folding::fold;
-use crate::showing::{count_lines, show_row};
+use crate::building::Cone;
+use crate::showing::count_lines;
 use crate::task::Goal;
 use condition::Refusal;
 use std::alloc::Global;
 
-// A cone with what decides a row, and the places of what is known and of the row's condition.
+// A store with what decides a row, and the places of what is known and of the row's condition.
 #[derive(Drop)]
-pub(crate) struct Cone {
+pub(crate) struct RowCone {
     pub(crate) nodes: Vec<u64>,
     pub(crate) goal: Goal,
 }
@@ -33,7 +32,7 @@ pub(crate) fn build_cone(
     n: usize,
     row: &[u64],
     marks: &[bool],
-) -> Result<Cone, Refusal>
+) -> Result<RowCone, Refusal>
     requires store { (1 + 5 * count nodes.now ≤ length nodes.now) × (known < count nodes.now) }
     requires answer { (n * line_size (length row.now) ≤ length answer.now) × ((lines_fit n (length row.now) answer.now ≡ true) × (lines_named (count nodes.now) n (length row.now) answer.now ≡ true)) }
     requires marks { (count nodes.now ≤ length marks.now) × (Closed nodes.now (count nodes.now) marks.now) }
@@ -62,7 +61,7 @@ pub(crate) fn build_cone(
         cone.as_mut_slice(),
         index.as_mut_slice(),
     );
-    Ok(Cone { nodes: cone, goal })
+    Ok(RowCone { nodes: cone, goal })
 }
 
 // How many numbers a cone takes for so many nodes and, for each of so many lines, two nodes a cell and two more.
@@ -98,9 +97,9 @@ fn fill_cone(
     requires scratch { (count nodes.now ≤ length places.old) × (0 < length index.old) }
     ensures { Coned (cond_at nodes.now known) (deciding_in nodes.now answer.now n row.now) row.now cone.new result }
 {
-    begin(cone);
-    fold(nodes, nodes[0], marks, places, cone, index);
-    let shows = show_row(answer, n, row, places, cone, index);
+    let mut cone = Cone::begin(cone, index);
+    cone.fold(nodes, nodes[0], marks, places);
+    let shows = cone.show_row(answer, n, row, places);
     Goal {
         known: places[known as usize],
         shows,
@@ -112,11 +111,5 @@ fn count_marks(marks: &[bool], n: usize) -> usize
     requires { n ≤ length marks.now }
     ensures { result ≡ counted n (marked marks.now) }
 {
-    let mut many = 0;
-    for i in 0..n {
-        if marks[i] {
-            many += 1;
-        }
-    }
-    many
+    marks[..n].iter().filter(|set| **set).count()
 }

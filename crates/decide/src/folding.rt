@@ -1,39 +1,33 @@
 // Marked nodes of a store copied into a cone, so that every copied condition holds under the same fillings.
 ghost use Rattle.std.specs.Prelude.{◌≡◌, ℕ, ◌+◌, ◌*◌, ◌<◌, ◌≤◌, false, length, slice_index, slice_index_or};
 ghost use Rattle.condition.specs.Store.{count};
+ghost use Rattle.decide.specs.Building.{Same};
 ghost use Rattle.decide.specs.Counting.{counted};
-ghost use Rattle.decide.specs.Folding.{Begun, Tidy, place_in, renamed, Folds};
+ghost use Rattle.decide.specs.Folding.{Room, place_in, renamed, Folds};
 ghost use Rattle.decide.specs.Reaching.{marked, Closed};
 
-use crate::building::build;
+use crate::building::Cone;
 use crate::simplifying::NEVER;
 use condition::{Node, node_at};
 
-// Copies each marked one of the first n nodes of a store into a cone, and writes down its place there.
-pub fn fold(
-    nodes: &[u64],
-    n: u64,
-    marks: &[bool],
-    places: &mut [u64],
-    cone: &mut [u64],
-    index: &mut [u64],
-)
-    requires stand { (n ≤ count nodes.now) × (1 + 5 * n ≤ length nodes.now) }
-    requires marks { n ≤ length marks.now }
-    requires closed { Closed nodes.now n marks.now }
-    requires places { n ≤ length places.old }
-    requires begun { Begun cone.old }
-    requires tidy { Tidy cone.old }
-    requires room { 1 + 5 * (count cone.old + counted n (marked marks.now)) ≤ length cone.old }
-    requires index { 0 < length index.old }
-    ensures folds { Folds nodes.now n marks.now cone.old cone.new places.new }
-    ensures unmarked { (i : ℕ) → slice_index_or marks.now i false ≡ false → slice_index places.new i ≡ slice_index places.old i }
-    ensures past { (i : ℕ) → n ≤ i → slice_index places.new i ≡ slice_index places.old i }
-{
-    for i in 0..n as usize {
-        if marks[i] {
-            let node = renamed(node_at(nodes, 1 + 5 * i), places, i);
-            places[i] = build(cone, index, node);
+impl Cone<'_, '_> {
+    // Copies each marked one of the first n nodes of a store, and writes down its place in the cone.
+    pub fn fold(&mut self, nodes: &[u64], n: u64, marks: &[bool], places: &mut [u64])
+        requires stand { (n ≤ count nodes.now) × (1 + 5 * n ≤ length nodes.now) }
+        requires marks { n ≤ length marks.now }
+        requires closed { Closed nodes.now n marks.now }
+        requires places { n ≤ length places.old }
+        requires room { Room self.old.nodes.now (counted n (marked marks.now)) }
+        ensures same { Same self.old self.new }
+        ensures folds { Folds nodes.now n marks.now self.old.nodes.now self.new.nodes.now places.new }
+        ensures unmarked { (i : ℕ) → slice_index_or marks.now i false ≡ false → slice_index places.new i ≡ slice_index places.old i }
+        ensures past { (i : ℕ) → n ≤ i → slice_index places.new i ≡ slice_index places.old i }
+    {
+        for i in 0..n as usize {
+            if marks[i] {
+                let node = renamed(node_at(nodes, 1 + 5 * i), places, i);
+                places[i] = self.build(node);
+            }
         }
     }
 }

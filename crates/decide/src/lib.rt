@@ -30,9 +30,7 @@ mod task;
 mod trying;
 mod words;
 
-pub use building::{begin, both_of, build, either_of, equal_of, not_of};
-pub use folding::fold;
-pub use interning::intern;
+pub use building::Cone;
 pub use rowwise::{decide_row, possible, sure};
 
 // How a row stands: in the answer under every filling that fits what is known, under some and not under others, or under none; and

@@ -2,11 +2,11 @@
 ghost use Rattle.std.specs.Prelude.{◌≡◌, ◌<◌, ◌≤◌, true, not, IfSome};
 ghost use Rattle.condition.specs.Store.{count};
 ghost use Rattle.condition.specs.Shapes.{Named};
-ghost use Rattle.condition.specs.declared.Node.TheVariants.{Equal, Not, Both, Either};
+ghost use Rattle.condition.specs.declared.Node.TheVariants.{Equal, Not};
 ghost use Rattle.evaluate.specs.Filling.{Filling};
-ghost use Rattle.decide.specs.Folding.{Begun, Tidy, truth, ComesTo};
-ghost use Rattle.decide.specs.Reaching.{EachPlace};
+ghost use Rattle.decide.specs.Folding.{truth, Over, ComesTo, joined, vanishing, settling};
 
+use crate::building::Cone;
 use condition::{Cell, Node, node_at};
 
 // A place of a cone, or a node that is to stand in it.
@@ -21,166 +21,149 @@ pub(crate) const ALWAYS: u64 = 0;
 
 pub(crate) const NEVER: u64 = 1;
 
-// What a node over places of a cone comes to there.
-pub(crate) fn simplify(cone: &[u64], node: Node) -> Simple
-    requires begun { Begun cone.now }
-    requires tidy { Tidy cone.now }
-    requires named { Named node }
-    requires places { EachPlace node (λ j. j < count cone.now) }
-    ensures { ComesTo cone.now node result }
-{
-    match node {
-        Node::Always => Simple::Place(ALWAYS),
-        Node::Never => Simple::Place(NEVER),
-        Node::Equal(a, b) => simple_equal(cone, a, b),
-        Node::Not(a) => simple_not(cone, a),
-        Node::Both(a, b) => simple_both(cone, a, b),
-        Node::Either(a, b) => simple_either(cone, a, b),
-    }
+// How two conditions are joined: that all of them hold, or that any of them does.
+#[derive(Clone, Copy)]
+pub(crate) enum Join {
+    All,
+    Any,
 }
 
-// Two numbers, or one gap twice, are compared at once; else the gap stands before the number, the smaller gap before the other.
-fn simple_equal(cone: &[u64], a: Cell, b: Cell) -> Simple
-    requires begun { Begun cone.now }
-    requires named { Named (Equal a b) }
-    ensures { ComesTo cone.now (Equal a b) result }
-{
-    match (a, b) {
-        (Cell::Number(m), Cell::Number(n)) => {
-            if m == n {
-                Simple::Place(ALWAYS)
-            } else {
-                Simple::Place(NEVER)
-            }
+impl Join {
+    // The node that joins the conditions at two places.
+    fn node(self, a: u64, b: u64) -> Node
+        ensures { result ≡ joined self a b }
+    {
+        match self {
+            Join::All => Node::Both(a, b),
+            Join::Any => Node::Either(a, b),
         }
-        (Cell::Number(_), Cell::Gap(_)) => Simple::New(Node::Equal(b, a)),
-        (Cell::Gap(_), Cell::Number(_)) => Simple::New(Node::Equal(a, b)),
-        (Cell::Gap(j), Cell::Gap(k)) => {
-            if j == k {
-                Simple::Place(ALWAYS)
-            } else if j < k {
-                Simple::New(Node::Equal(a, b))
-            } else {
-                Simple::New(Node::Equal(b, a))
-            }
+    }
+
+    // The place of the constant that changes nothing where it is joined.
+    fn vanishing(self) -> u64
+        ensures { result ≡ vanishing self }
+    {
+        match self {
+            Join::All => ALWAYS,
+            Join::Any => NEVER,
+        }
+    }
+
+    // The place of the constant that settles what it is joined to.
+    fn settling(self) -> u64
+        ensures { result ≡ settling self }
+    {
+        match self {
+            Join::All => NEVER,
+            Join::Any => ALWAYS,
         }
     }
 }
 
-// The other of the constants, or what was negated already.
-fn simple_not(cone: &[u64], a: u64) -> Simple
-    requires begun { Begun cone.now }
-    requires tidy { Tidy cone.now }
-    requires stands { a < count cone.now }
-    ensures { ComesTo cone.now (Not a) result }
-{
-    match a {
-        ALWAYS => Simple::Place(NEVER),
-        NEVER => Simple::Place(ALWAYS),
-        _ => match negated(cone, a) {
-            Some(b) => Simple::Place(b),
-            None => Simple::New(Node::Not(a)),
-        },
+impl Cone<'_, '_> {
+    // What a node over places of the cone comes to there.
+    pub(crate) fn simplify(&self, node: Node) -> Simple
+        requires named { Named node }
+        requires over { Over self.now.nodes.now node }
+        ensures { ComesTo self.now.nodes.now node result }
+    {
+        match node {
+            Node::Always => Simple::Place(ALWAYS),
+            Node::Never => Simple::Place(NEVER),
+            Node::Equal(a, b) => self.simple_equal(a, b),
+            Node::Not(a) => self.simple_not(a),
+            Node::Both(a, b) => self.simple_join(Join::All, a, b),
+            Node::Either(a, b) => self.simple_join(Join::Any, a, b),
+        }
     }
-}
 
-// The smaller place first; one place twice is that place.
-fn simple_both(cone: &[u64], a: u64, b: u64) -> Simple
-    requires begun { Begun cone.now }
-    requires tidy { Tidy cone.now }
-    requires stand { (a < count cone.now) × (b < count cone.now) }
-    ensures { ComesTo cone.now (Both a b) result }
-{
-    if a == b {
-        return Simple::Place(a);
-    }
-    if a < b {
-        ordered_both(cone, a, b)
-    } else {
-        ordered_both(cone, b, a)
-    }
-}
-
-// Constants vanish, and a condition with its negation is never.
-fn ordered_both(cone: &[u64], a: u64, b: u64) -> Simple
-    requires begun { Begun cone.now }
-    requires tidy { Tidy cone.now }
-    requires stand { (a < b) × (b < count cone.now) }
-    ensures { ComesTo cone.now (Both a b) result }
-{
-    match a {
-        ALWAYS => Simple::Place(b),
-        NEVER => Simple::Place(NEVER),
-        _ => {
-            if negates(cone, b, a) {
-                Simple::Place(NEVER)
-            } else {
-                Simple::New(Node::Both(a, b))
+    // Two numbers, or one gap twice, are compared at once; else the gap stands before the number, the smaller gap before the other.
+    fn simple_equal(&self, a: Cell, b: Cell) -> Simple
+        requires { Named (Equal a b) }
+        ensures { ComesTo self.now.nodes.now (Equal a b) result }
+    {
+        match (a, b) {
+            (Cell::Number(m), Cell::Number(n)) => {
+                if m == n {
+                    Simple::Place(ALWAYS)
+                } else {
+                    Simple::Place(NEVER)
+                }
+            }
+            (Cell::Number(_), Cell::Gap(_)) => Simple::New(Node::Equal(b, a)),
+            (Cell::Gap(_), Cell::Number(_)) => Simple::New(Node::Equal(a, b)),
+            (Cell::Gap(j), Cell::Gap(k)) => {
+                if j == k {
+                    Simple::Place(ALWAYS)
+                } else if j < k {
+                    Simple::New(Node::Equal(a, b))
+                } else {
+                    Simple::New(Node::Equal(b, a))
+                }
             }
         }
     }
-}
 
-// The smaller place first; one place twice is that place.
-fn simple_either(cone: &[u64], a: u64, b: u64) -> Simple
-    requires begun { Begun cone.now }
-    requires tidy { Tidy cone.now }
-    requires stand { (a < count cone.now) × (b < count cone.now) }
-    ensures { ComesTo cone.now (Either a b) result }
-{
-    if a == b {
-        return Simple::Place(a);
-    }
-    if a < b {
-        ordered_either(cone, a, b)
-    } else {
-        ordered_either(cone, b, a)
-    }
-}
-
-// Constants vanish, and a condition or its negation is always.
-fn ordered_either(cone: &[u64], a: u64, b: u64) -> Simple
-    requires begun { Begun cone.now }
-    requires tidy { Tidy cone.now }
-    requires stand { (a < b) × (b < count cone.now) }
-    ensures { ComesTo cone.now (Either a b) result }
-{
-    match a {
-        ALWAYS => Simple::Place(ALWAYS),
-        NEVER => Simple::Place(b),
-        _ => {
-            if negates(cone, b, a) {
-                Simple::Place(ALWAYS)
-            } else {
-                Simple::New(Node::Either(a, b))
-            }
+    // The other of the constants, or what was negated already.
+    fn simple_not(&self, a: u64) -> Simple
+        requires { a < count self.now.nodes.now }
+        ensures { ComesTo self.now.nodes.now (Not a) result }
+    {
+        match a {
+            ALWAYS => Simple::Place(NEVER),
+            NEVER => Simple::Place(ALWAYS),
+            _ => match self.negated(a) {
+                Some(b) => Simple::Place(b),
+                None => Simple::New(Node::Not(a)),
+            },
         }
     }
-}
 
-// Whether node b, behind a, negates the condition at a.
-fn negates(cone: &[u64], b: u64, a: u64) -> bool
-    requires begun { Begun cone.now }
-    requires tidy { Tidy cone.now }
-    requires stands { (2 ≤ b) × (b < count cone.now) }
-    ensures { result ≡ true → (v : Filling) → truth cone.now v b ≡ not (truth cone.now v a) }
-{
-    match negated(cone, b) {
-        Some(x) => x == a,
-        None => false,
+    // The smaller place first; one place twice is that place.
+    fn simple_join(&self, join: Join, a: u64, b: u64) -> Simple
+        requires { (a < count self.now.nodes.now) × (b < count self.now.nodes.now) }
+        ensures { ComesTo self.now.nodes.now (joined join a b) result }
+    {
+        if a == b {
+            Simple::Place(a)
+        } else if a < b {
+            self.ordered_join(join, a, b)
+        } else {
+            self.ordered_join(join, b, a)
+        }
     }
-}
 
-// The place that node a negates, if it is a negation.
-fn negated(cone: &[u64], a: u64) -> Option<u64>
-    requires begun { Begun cone.now }
-    requires tidy { Tidy cone.now }
-    requires stands { (2 ≤ a) × (a < count cone.now) }
-    ensures before { IfSome result (λ b. b < a) }
-    ensures value { IfSome result (λ b. (v : Filling) → truth cone.now v a ≡ not (truth cone.now v b)) }
-{
-    match node_at(cone, 1 + 5 * a as usize) {
-        Node::Not(b) => Some(b),
-        _ => None,
+    // One constant vanishes, the other settles all, and so does a condition with its negation.
+    fn ordered_join(&self, join: Join, a: u64, b: u64) -> Simple
+        requires { (a < b) × (b < count self.now.nodes.now) }
+        ensures { ComesTo self.now.nodes.now (joined join a b) result }
+    {
+        if a == join.vanishing() {
+            Simple::Place(b)
+        } else if a == join.settling() || self.negates(b, a) {
+            Simple::Place(join.settling())
+        } else {
+            Simple::New(join.node(a, b))
+        }
+    }
+
+    // Whether node b, behind a, negates the condition at a.
+    fn negates(&self, b: u64, a: u64) -> bool
+        requires { (2 ≤ b) × (b < count self.now.nodes.now) }
+        ensures { result ≡ true → (v : Filling) → truth self.now.nodes.now v b ≡ not (truth self.now.nodes.now v a) }
+    {
+        self.negated(b) == Some(a)
+    }
+
+    // The place that node a negates, if it is a negation.
+    fn negated(&self, a: u64) -> Option<u64>
+        requires { (2 ≤ a) × (a < count self.now.nodes.now) }
+        ensures before { IfSome result (λ b. b < a) }
+        ensures value { IfSome result (λ b. (v : Filling) → truth self.now.nodes.now v a ≡ not (truth self.now.nodes.now v b)) }
+    {
+        match node_at(self.nodes, 1 + 5 * a as usize) {
+            Node::Not(b) => Some(b),
+            _ => None,
+        }
     }
 }

@@ -1,22 +1,11 @@
-use Rattle.std.proofs.Common.{◌≡◌, sym, ap, ◌∙◌, arith}
-use Rattle.decide.specs.Counting.{counted}
+use Rattle.std.proofs.Common.{rules, ◌≡◌, false, take, count_by, sym, refl, ◌∙◌}
+use Rattle.std.proofs.iter.runs.Made.{chains}
 use Rattle.decide.specs.Reaching.{marked}
-use Rattle.decide.proofs.Counted.{counted_zero, counted_yes, counted_no, counted_few}
+use Rattle.decide.proofs.Counted.{counted_along}
 use Rattle.decide.proofs.coning.count_marks.Goals as goal
-use Rattle.decide.proofs.coning.count_marks.Goals.{then-marks-i, else-marks-i}
-
-pub loop-i-init : goal.loop-i-init
-loop-i-init c = sym (counted_zero (marked c.args.marks.now))
-
-pub overflow_add-many : goal.overflow_add-many
-overflow_add-many c = omega (arith, counted_few c.loop-i.i (marked c.args.marks.now))
-
-pub loop-i-preserved : goal.loop-i-preserved
-loop-i-preserved c =
-    elim c.if-marks-i.branch [
-      | then-marks-i w ↦ omega (arith, w.many-is, counted_yes c.loop-i.i (marked c.args.marks.now) w.if-marks-i.true)
-      | else-marks-i w ↦ omega (arith, w.many-is, counted_no c.loop-i.i (marked c.args.marks.now) w.if-marks-i.false)
-    ]
 
 pub returns : goal.returns
-returns c = let e : c.loop-i.i ≡ c.args.n = omega arith in c.loop-i.invariant ∙ ap (λ t. counted t (marked c.args.marks.now)) e
+returns c =
+    let n = c.args.n in let marks = c.args.marks.now in
+    let e : c.count.result ≡ count_by (λ b. b) (take n marks) = search (rules, chains) in
+    e ∙ sym (counted_along n (marked marks) (λ b. b) marks false c.requires (λ k l. refl))

@@ -1,0 +1,6 @@
+use Rattle.decide.specs.Building.{Same}
+use Rattle.decide.proofs.Meaning.{Showing}
+use Rattle.decide.proofs.building.Cone.show_row.Given as goal
+
+abbrev pub invariant-loop-i : goal.invariant-loop-i
+invariant-loop-i l = record { same : Same l.initial.self l.self; showing : Showing l.initial.self.nodes.now l.self.nodes.now l.answer l.row l.places l.n l.i l.shown }

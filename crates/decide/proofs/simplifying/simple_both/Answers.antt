@@ -1,8 +1,0 @@
-use Rattle.decide.proofs.Simpler.{both_self, both_turned}
-use Rattle.decide.proofs.simplifying.simple_both.Goals as goal
-
-pub returns-then-a-b : goal.returns-then-a-b
-returns-then-a-b c = both_self c.args.cone.now c.args.a c.args.b c.if-a-b.true c.requires.stand.0
-
-pub returns-else-a-b-2 : goal.returns-else-a-b-2
-returns-else-a-b-2 c = both_turned c.args.cone.now c.args.a c.args.b c.ordered_both-else-a-b-2.result c.ordered_both-else-a-b-2.ensures
