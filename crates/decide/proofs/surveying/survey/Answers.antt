@@ -1,20 +1,14 @@
-use Rattle.std.proofs.Common.{[], length, arith}
-use Rattle.condition.specs.Store.{count}
-use Rattle.list.specs.Layout.{lines_in}
-use Rattle.decide.proofs.Surveyed.{surveyed, known_marked}
+use Rattle.std.proofs.Common.{◌≤◌, [], length, arith}
+use Rattle.decide.proofs.Surveyed.{cleared, cleared_long, surveyed}
 use Rattle.decide.proofs.surveying.survey.Goals as goal
 
 pub returns : goal.returns
-returns c = record {
-  known =
-      known_marked c.args.nodes.now (count c.args.nodes.now) c.args.known c.args.row.now (λ nodes. lines_in nodes c.args.n (length c.args.row.now) c.args.answer.now)
-      c.clear.new.marks c.mark_lines.new.marks c.close.new.marks c.note_row.new.notes c.mark_lines.new.notes c.note_marked.new.notes
-      (omega arith) c.requires.stands (omega arith) c.clear.ensures (c.note_row.ensures.noted [] c.none-notes.ensures.noted) c.mark_lines.ensures.matched
-      c.close.ensures.closed c.close.ensures.kept c.close.ensures.reached c.note_marked.ensures.few c.note_marked.ensures.noted;
-  lines = λ k l m y. c.close.ensures.kept _ (c.mark_lines.ensures.lines k l m y);
-  surveyed =
-      surveyed c.args.nodes.now (count c.args.nodes.now) c.args.known c.args.row.now (λ nodes. lines_in nodes c.args.n (length c.args.row.now) c.args.answer.now)
-      c.clear.new.marks c.mark_lines.new.marks c.close.new.marks c.note_row.new.notes c.mark_lines.new.notes c.note_marked.new.notes
-      (omega arith) c.requires.stands (omega arith) c.clear.ensures (c.note_row.ensures.noted [] c.none-notes.ensures.noted) c.mark_lines.ensures.matched
-      c.close.ensures.closed c.close.ensures.kept c.close.ensures.reached c.note_marked.ensures.few c.note_marked.ensures.noted;
-}
+returns c =
+    let n = c.count-count.ensures in
+    let m = c.marked.ensures in
+    let l : c.count-count.result ≤ length c.args.marks.now = omega (arith, c.requires) in
+    let e = c.fill.ensures.after (λ y h. h) in
+    surveyed c.args.sought.now _ c.mark_lines.new.marks c.close.new.marks c.note_row.new.self c.mark_lines.new.notes c.note_marked.new.self
+    (omega (arith, cleared_long c.count-count.result c.fill.new.self c.args.marks.now l e)) (λ i b. cleared c.count-count.result c.fill.new.self c.args.marks.now l e i (omega arith))
+    (c.note_row.ensures [] c.new-notes.ensures) c.mark_lines.ensures
+    (rw n at c.close.ensures.closed) c.close.ensures.kept (rw n at c.close.ensures.reached) (rw (m.nodes, m.all, m.marks) at c.note_marked.ensures)

@@ -1,5 +1,6 @@
 -- How many numbers the marked nodes of a store name: at most two a node.
-use Rattle.std.proofs.Common.{ℕ, zero, suc, ◌+◌, ◌*◌, ◌≤◌, Bool, true, false, cond as if, ◌&&◌, List, [], ◌∷◌, ◌++◌, length, arith, length-append}
+use Rattle.std.proofs.Common.{ℕ, zero, suc, ◌+◌, ◌*◌, ◌≤◌, Bool, true, false, cond as if, ◌&&◌, List, [], ◌∷◌, ◌++◌, length, ⊎_elim, ◌≡◌, arith, length-append}
+use Rattle.std.proofs.lemmas.Bool.{cases_Bool}
 use Rattle.condition.specs.Cond.{Cell, known, gap, equal, never, cells_of, numbers_in, has}
 use Rattle.condition.specs.Store.{has_name}
 use Rattle.condition.specs.Shapes.{cell_of}
@@ -10,6 +11,7 @@ use Rattle.condition.proofs.Named.{numbers_app}
 use Rattle.decide.specs.Counting.{counted}
 use Rattle.decide.specs.Reaching.{own_cells, marked, marked_cells}
 use Rattle.decide.proofs.Counted.{counted_listed}
+use Rattle.decide.proofs.Passing.{marked_none, marked_more, marked_pass}
 
 numbers_few : (cs : List Cell) → length (numbers_in cs) ≤ length cs
 unfolding numbers_in
@@ -31,15 +33,13 @@ own_few (Both a b) = omega arith
 own_few (Either a b) = omega arith
 
 marked_few : (nodes : List ℕ) (ms : List Bool) (n : ℕ) → length (numbers_in (marked_cells nodes ms n)) ≤ 2 * n
-unfolding marked_cells numbers_in
-marked_few nodes ms zero = omega arith
-marked_few nodes ms (suc n) = go (marked ms n) (marked_few nodes ms n)
-  where
-    go : (t : Bool) → length (numbers_in (marked_cells nodes ms n)) ≤ 2 * n →
-        length (numbers_in (if t (own_cells (decoded nodes n) ++ marked_cells nodes ms n) (marked_cells nodes ms n))) ≤ 2 * suc n
-    go true h = rw (numbers_app (own_cells (decoded nodes n)) (marked_cells nodes ms n), length-append (numbers_in (own_cells (decoded nodes n))) (numbers_in (marked_cells nodes ms n)))
-        (omega (arith, numbers_few (own_cells (decoded nodes n)), own_few (decoded nodes n)))
-    go false h = omega arith
+unfolding numbers_in
+marked_few nodes ms zero = rw (marked_none nodes ms) (omega arith)
+marked_few nodes ms (suc n) = let e : suc n ≡ n + 1 = omega arith in rw e (⊎_elim
+    (λ h. rw (marked_more nodes ms n h, numbers_app (marked_cells nodes ms n) (own_cells (decoded nodes n)), length-append (numbers_in (marked_cells nodes ms n)) (numbers_in (own_cells (decoded nodes n))))
+        (omega (arith, marked_few nodes ms n, numbers_few (own_cells (decoded nodes n)), own_few (decoded nodes n))))
+    (λ h. rw (marked_pass nodes ms n h) (omega (arith, marked_few nodes ms n)))
+    (cases_Bool (marked ms n)))
 
 -- so many different numbers they and a row name at most
 pub counted_marked : (b : ℕ) (nodes : List ℕ) (ms : List Bool) (n : ℕ) (row : List ℕ) → counted b (has (numbers_in (marked_cells nodes ms n) ++ row)) ≤ 2 * n + length row

@@ -1,0 +1,75 @@
+// Nodes of a store, some of them marked.
+ghost use Rattle.std.specs.Prelude.{◌≡◌, ◌+◌, ◌*◌, ◌≤◌, length};
+ghost use Rattle.condition.specs.Store.{count};
+
+use condition::{Node, node_at};
+
+// The first n nodes of a store, some of them marked.
+#[derive(Clone, Copy)]
+pub(crate) struct Marked<'n, 'm> {
+    pub(crate) nodes: &'n [u64],
+    pub(crate) n: usize,
+    pub(crate) marks: &'m [bool],
+    ghost stand: { n ≤ count nodes.now },
+    ghost whole: { 1 + 5 * n ≤ length nodes.now },
+    ghost fits: { n ≤ length marks.now },
+}
+
+impl<'n, 'm> Marked<'n, 'm> {
+    ghost use Rattle.std.specs.Prelude.{◌≡◌, ◌<◌};
+    ghost use Rattle.condition.specs.Nodes.{decoded};
+    ghost use Rattle.condition.specs.Shapes.{Named};
+    ghost use Rattle.decide.specs.Reaching.{marked_places};
+    ghost use Rattle.decide.specs.Marked.{places_left};
+
+    // The places of the marked nodes, in rising order.
+    pub(crate) fn places(&self) -> Places<'m>
+        ensures { places_left result ≡ marked_places self.now.marks.now self.now.n }
+    {
+        Places {
+            marks: self.marks,
+            at: 0,
+            n: self.n,
+        }
+    }
+
+    // Node i.
+    pub(crate) fn node(&self, i: usize) -> Node
+        requires { i < self.now.n }
+        ensures read { result ≡ decoded self.now.nodes.now i }
+        ensures named { Named result }
+    {
+        node_at(self.nodes, 1 + 5 * i)
+    }
+}
+
+// The places from one on that are marked, one after the other.
+#[derive(Drop)]
+pub(crate) struct Places<'a> {
+    marks: &'a [bool],
+    at: usize,
+    n: usize,
+    ghost inside: { n ≤ length marks.now },
+}
+
+impl<'a> Iterator for Places<'a> {
+    ghost use Rattle.std.specs.Iterator.{YieldsFirst, item_count};
+    ghost use Rattle.decide.specs.Marked.{places_left};
+
+    type Item = usize;
+
+    ghost next_gives = { YieldsFirst places_left };
+
+    ghost remaining = { item_count places_left };
+
+    fn next(&mut self) -> Option<usize> {
+        while self.at < self.n {
+            let place = self.at;
+            self.at += 1;
+            if self.marks[place] {
+                return Some(place);
+            }
+        }
+        None
+    }
+}
