@@ -1,20 +1,13 @@
 -- A line and a row cell by cell, and the lines that decide the row one after the other.
-use Rattle.std.proofs.Common.{◌≡◌, ℕ, ◌+◌, ◌-◌, ◌*◌, ◌<◌, ◌≤◌, Bool, true, false, ◌&&◌, ◌≢◌, List, [], ◌∷◌, ◌++◌, map, length, get_or, take, drop, set, sym, refl, ap, ◌∙◌, inl, inr, append_assoc, add-one, arith, drop-cons, take_all}
+use Rattle.std.proofs.Common.{◌≡◌, ℕ, ◌+◌, ◌-◌, ◌*◌, ◌<◌, ◌≤◌, Bool, true, ◌&&◌, List, [], ◌∷◌, ◌++◌, map, length, get_or, take, drop, sym, refl, ap, ◌∙◌, add-one, arith, drop-cons, take_all}
 use Rattle.std.specs.List.{list_all, enumerate_from}
-use Rattle.std.proofs.lemmas.List.{take_more, map-append, get_or-drop, drop-drop, drop_all, get_or-set_same, get_or-set_other}
-use Rattle.std.proofs.lemmas.Bool.{both_ways, cases_eq}
-use Rattle.condition.specs.Cond.{Cell, known, gap, cells_of}
-use Rattle.condition.specs.Store.{cell_in, has_name, cond_at}
+use Rattle.std.proofs.lemmas.List.{take_more, map-append, get_or-drop, drop-drop, drop_all}
+use Rattle.condition.specs.Cond.{Cell, known, gap}
+use Rattle.condition.specs.Store.{cell_in, has_name}
 use Rattle.list.specs.Layout.{line_size, cells_in, lines_in, cells_fit}
-use Rattle.list.specs.Lists.{Line, Row}
-use Rattle.list.proofs.Stepping.{left_step}
+use Rattle.list.specs.Lists.{Row}
 use Rattle.list.proofs.Reading.{line_in, length_cells, length_lines, line_cell_at, line_at, cells_fit_at, fits_named}
-use Rattle.decide.specs.Deciding.{agrees_cell, agrees, deciding, cells_in_lines, conds_in_lines}
-use Rattle.decide.specs.Reaching.{marked}
-use Rattle.decide.specs.Noting.{NotesMore}
-use Rattle.decide.specs.Matching.{cells_at, node_at, LinesMarked, Matched}
-use Rattle.decide.specs.declared.noting.Notes.{Notes}
-use Rattle.decide.proofs.Coverage.{covers_none, covers_both, covers_left, covers_right}
+use Rattle.decide.specs.Deciding.{agrees_cell, agrees}
 
 pub drop_next : {X : Type 0} (xs : List X) (a : ℕ) (d : X) → a < length xs → drop a xs ≡ get_or xs a d ∷ drop (a + 1) xs
 drop_next xs a d l = rw (add-one, drop-cons xs a d l) refl

@@ -37,7 +37,7 @@ unfolding numbers_in
 marked_few nodes ms zero = rw (marked_none nodes ms) (omega arith)
 marked_few nodes ms (suc n) = let e : suc n ≡ n + 1 = omega arith in rw e (⊎_elim
     (λ h. rw (marked_more nodes ms n h, numbers_app (marked_cells nodes ms n) (own_cells (decoded nodes n)), length-append (numbers_in (marked_cells nodes ms n)) (numbers_in (own_cells (decoded nodes n))))
-        (omega (arith, marked_few nodes ms n, numbers_few (own_cells (decoded nodes n)), own_few (decoded nodes n))))
+    (omega (arith, marked_few nodes ms n, numbers_few (own_cells (decoded nodes n)), own_few (decoded nodes n))))
     (λ h. rw (marked_pass nodes ms n h) (omega (arith, marked_few nodes ms n)))
     (cases_Bool (marked ms n)))
 

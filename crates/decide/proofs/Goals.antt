@@ -7,7 +7,7 @@ use Rattle.condition.specs.Store.{cond_at}
 use Rattle.condition.proofs.Lists.{has_left, has_right, has_at}
 use Rattle.evaluate.specs.Filling as fillings
 use Rattle.evaluate.specs.Filling.{holds}
-use Rattle.evaluate.specs.Shapes.{numbers_of as filled_with}
+use Rattle.evaluate.specs.Shapes.{numbers_of}
 use Rattle.evaluate.specs.declared.Filling.{Filling}
 use Rattle.evaluate.proofs.Holding.{holds_both, holds_not}
 use Rattle.list.specs.Lists.{Line, Row}
@@ -18,7 +18,7 @@ use Rattle.decide.specs.Noting.{gap_noted, numbers_noted}
 use Rattle.decide.specs.Reaching.{Covers}
 use Rattle.decide.specs.Sought.{known_of, lines_of, deciding_of}
 use Rattle.decide.specs.Standing.{named_cells, standing, Decided}
-use Rattle.decide.specs.Surveying.{numbers_met, gaps_met, numbers_of, gaps_of, Surveyed, FewNamed}
+use Rattle.decide.specs.Surveying.{numbers_met, gaps_met, numbers_for, gaps_for, Surveyed, FewNamed}
 use Rattle.decide.specs.Trying.{Tried, Names}
 use Rattle.decide.specs.declared.noting.Notes.{Notes}
 use Rattle.decide.specs.declared.sought.Sought.{Sought}
@@ -62,7 +62,7 @@ both_met what ls row =
 
 module _ (q : Sought) (ms : List Bool) (s : Notes) (y : Surveyed q ms s) (names : List ℕ) (f : FewNamed s names) where
   -- the gaps and numbers that count are those that are tried
-  gaps_tried : Within (gaps_of q) names
+  gaps_tried : Within (gaps_for q) names
   unfolding Within
   gaps_tried k h =
       let o : gap_noted s k ≡ true = y.noted.gaps k ∙ (ap (λ t. has t k) (gaps_met_are q) ∙ h) in
@@ -71,15 +71,15 @@ module _ (q : Sought) (ms : List Bool) (s : Notes) (y : Surveyed q ms s) (names 
         | inr l ↦ let p : length s.gaps ≤ k = omega (arith, y.noted.long) in absurd (both_ways (gap_noted s k) (get_or_past s.gaps k false p) o)
       ])
 
-  numbers_tried : Within (numbers_of q) (numbers_noted s)
+  numbers_tried : Within (numbers_for q) (numbers_noted s)
   unfolding Within
   numbers_tried n h = y.noted.all (omega (arith, f.numbers)) n (ap (λ t. has t n) (numbers_met_are q) ∙ h)
 
   pub goal_named : (cone : List ℕ) (goal : Goal) → Coned (known_of q) (deciding_of q) q.row.now cone goal → Names (goal_of cone goal true) names (numbers_noted s)
   unfolding cells_of Within
   goal_named cone goal d =
-      let v : Covers (numbers_of q) (gaps_of q) (cells_of (cond_at cone goal.known) ++ cells_of (cond_at cone goal.shows)) =
-      covers_both (numbers_of q) (gaps_of q) (cells_of (cond_at cone goal.known)) (cells_of (cond_at cone goal.shows)) d.known_inside d.shows_inside in
+      let v : Covers (numbers_for q) (gaps_for q) (cells_of (cond_at cone goal.known) ++ cells_of (cond_at cone goal.shows)) =
+      covers_both (numbers_for q) (gaps_for q) (cells_of (cond_at cone goal.known)) (cells_of (cond_at cone goal.shows)) d.known_inside d.shows_inside in
       record {
         low = λ i l. passing_low 64 (gap_noted s) (get_or names i 0) (ap (λ t. has t (get_or names i 0)) (sym f.gaps) ∙ has_at names i l);
         gaps = λ k h. gaps_tried k (v.gaps k h);
@@ -88,7 +88,7 @@ module _ (q : Sought) (ms : List Bool) (s : Notes) (y : Surveyed q ms s) (names 
 
 -- a search that found a filling, or none, tells whether there is one
 tells : (c : Cond) (o : Option Filling) → Tried c o → Tells (is_some o) c
-tells c (Some w) h = (λ t. (filled_with w, h), λ p. refl)
+tells c (Some w) h = (λ t. (numbers_of w, h), λ p. refl)
 tells c None h = (λ t. absurd (both_ways false refl t), λ p. absurd (both_ways (holds p.0 c) (h p.0) p.1))
 
 tells_same : (b : Bool) (c d : Cond) → ((v : fillings.Filling) → holds v c ≡ holds v d) → Tells b c → Tells b d

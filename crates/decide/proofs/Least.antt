@@ -1,7 +1,7 @@
 -- Laws of `Least`: the least number of a row, one more number, and how many numbers pass up to the least one.
 use Rattle.std.proofs.Common.{◌≡◌, ℕ, ◌+◌, ◌-◌, ◌<◌, ◌≤◌, min, Bool, true, false, cond as if, ◌&&◌, ◌||◌, eqb, leb, ◌⊎◌, List, [], ◌∷◌, ◌++◌, fold, filter, Some, None, Option, sym, refl, ap, ◌∙◌, inl, inr, ⊎_elim, arith}
 use Rattle.std.specs.List.{reduce}
-use Rattle.std.proofs.lemmas.Bool.{both_ways, cases_lt, cases_Bool, eqb-true, ne_eqb, le-leb, leb-true, and_parts, and_from, or_from, or_cases}
+use Rattle.std.proofs.lemmas.Bool.{cases_lt, cases_Bool, eqb-true, ne_eqb, le-leb, leb-true, and_parts, or_from, or_cases}
 use Rattle.condition.specs.Cond.{numbers_in, has}
 use Rattle.condition.specs.Nodes.{decoded}
 use Rattle.condition.proofs.Lists.{has_none, has_cons, has_head, has_tail, has_app}
@@ -56,9 +56,9 @@ lesser x y m ys h = (
   λ k o. ⊎_elim
       (λ e. let q : x ≡ k = eqb-true x k e in omega (arith, h.1 (min x y) (has_head (min x y) ys)))
       (λ o. ⊎_elim
-        (λ e. let q : y ≡ k = eqb-true y k e in omega (arith, h.1 (min x y) (has_head (min x y) ys)))
-        (λ o. h.1 k (has_tail (min x y) ys k o))
-        (or_cases (eqb y k) (has ys k) (sym (has_cons y ys k) ∙ o)))
+      (λ e. let q : y ≡ k = eqb-true y k e in omega (arith, h.1 (min x y) (has_head (min x y) ys)))
+      (λ o. h.1 k (has_tail (min x y) ys k o))
+      (or_cases (eqb y k) (has ys k) (sym (has_cons y ys k) ∙ o)))
       (or_cases (eqb x k) (has (y ∷ ys) k) (sym (has_cons x (y ∷ ys) k) ∙ o)),
 )
   where

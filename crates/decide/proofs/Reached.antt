@@ -1,5 +1,5 @@
 -- Marking what conditions reach: what is marked, and the cells that stand there.
-use Rattle.std.proofs.Common.{◌≡◌, ℕ, zero, suc, ◌+◌, ◌<◌, ◌≤◌, Bool, true, false, ◌&&◌, ◌||◌, eqb, ltb, ◌⊎◌, List, [], ◌∷◌, ◌++◌, sym, refl, ap, ◌∙◌, subst, inl, inr, ⊎_elim, arith}
+use Rattle.std.proofs.Common.{◌≡◌, ℕ, zero, suc, ◌+◌, ◌<◌, ◌≤◌, Bool, true, false, ◌&&◌, ◌||◌, eqb, ltb, ◌⊎◌, List, [], ◌∷◌, sym, refl, ap, ◌∙◌, subst, inl, inr, ⊎_elim, arith}
 use Rattle.std.proofs.lemmas.Bool.{both_ways, cases_lt, cases_eq, cases_Bool, ltb-true, lt-ltb, le-ltb, eqb-true, and_parts, and_from, or_cases, or_left, or_right}
 use Rattle.condition.specs.Cond.{Cond, cells_of, numbers_in, gaps_in, has}
 use Rattle.condition.specs.Store.{count, earlier, cond_at}
@@ -151,9 +151,9 @@ module _ (ns gs : List ℕ) where
       let e : suc n ≡ n + 1 = omega arith in
       let ih = marked_covered nodes n ms (omega arith) (λ i l. a i (omega arith)) in
       rw e (⊎_elim
-        (λ h. rw (marked_more nodes ms n h) (covers_both ns gs (marked_cells nodes ms n) (own_cells (decoded nodes n)) ih (own_covered (decoded nodes n) n (cond_at nodes) (rw (at_decoded nodes n (omega arith)) at (a n (omega arith) h)))))
-        (λ h. rw (marked_pass nodes ms n h) ih)
-        (cases_Bool (marked ms n)))
+      (λ h. rw (marked_more nodes ms n h) (covers_both ns gs (marked_cells nodes ms n) (own_cells (decoded nodes n)) ih (own_covered (decoded nodes n) n (cond_at nodes) (rw (at_decoded nodes n (omega arith)) at (a n (omega arith) h)))))
+      (λ h. rw (marked_pass nodes ms n h) ih)
+      (cases_Bool (marked ms n)))
 
 -- a marked node's own cells are among those of all
 own_marked : (nodes : List ℕ) (n i : ℕ) (ms : List Bool) → i < n → marked ms i ≡ true →

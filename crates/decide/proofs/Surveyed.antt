@@ -15,7 +15,7 @@ use Rattle.decide.specs.Noting.{Noted, NotesMore}
 use Rattle.decide.specs.Sought.{known_of, lines_of, deciding_of}
 use Rattle.decide.specs.Matching.{node_at, deciding_first, Matched}
 use Rattle.decide.specs.Standing.{named_cells}
-use Rattle.decide.specs.Surveying.{numbers_of, gaps_of, cells_met, Surveyed}
+use Rattle.decide.specs.Surveying.{numbers_for, gaps_for, cells_for, Surveyed}
 use Rattle.decide.specs.declared.sought.Sought.{Sought}
 use Rattle.decide.specs.declared.noting.Notes.{Notes}
 use Rattle.decide.proofs.Coverage.{covers_none, covers_both, covers_left, covers_right, covers_self, covers_more, covers_before, covers_behind}
@@ -82,14 +82,14 @@ module _ (n : ℕ) (front old : List Bool) (l : n ≤ length old) (e : front ≡
       get_or_append_left front (drop n old) false i k ∙ rw e (get_or-replicate (length (take n old)) i false false (omega (arith, length-take-le n old l)))
 
 -- the cells that count name the numbers and the gaps that count
-pub numbers_met_are : (q : Sought) → numbers_in (cells_met q) ≡ numbers_of q
+pub numbers_met_are : (q : Sought) → numbers_in (cells_for q) ≡ numbers_for q
 numbers_met_are q = numbers_app (named_cells (known_of q) (deciding_of q)) (map known q.row.now) ∙ ap (λ t. gathered ++ t) (row_numbers q.row.now)
   where
     gathered : List ℕ
     gathered = numbers_in (named_cells (known_of q) (deciding_of q))
 
-pub gaps_met_are : (q : Sought) → gaps_in (cells_met q) ≡ gaps_of q
-gaps_met_are q = gaps_app (named_cells (known_of q) (deciding_of q)) (map known q.row.now) ∙ (ap (λ t. gaps_of q ++ t) (row_gaps q.row.now) ∙ append-nil (gaps_of q))
+pub gaps_met_are : (q : Sought) → gaps_in (cells_for q) ≡ gaps_for q
+gaps_met_are q = gaps_app (named_cells (known_of q) (deciding_of q)) (map known q.row.now) ∙ (ap (λ t. gaps_for q ++ t) (row_gaps q.row.now) ∙ append-nil (gaps_for q))
 
 module _ (q : Sought) (blank ms₁ ms : List Bool) (s₀ s₁ s : Notes)
     (long : count q.nodes.now ≤ length blank) (clean : (i : ℕ) → i < count q.nodes.now → marked blank i ≡ false)
@@ -116,10 +116,10 @@ module _ (q : Sought) (blank ms₁ ms : List Bool) (s₀ s₁ s : Notes)
   met = named_cells (cond_at nodes at) ds
 
   abbrev ns : List ℕ
-  ns = numbers_of q
+  ns = numbers_for q
 
   abbrev gs : List ℕ
-  gs = gaps_of q
+  gs = gaps_for q
 
   abbrev found : List Cell
   found = marked_cells nodes ms c
@@ -216,7 +216,7 @@ module _ (q : Sought) (blank ms₁ ms : List Bool) (s₀ s₁ s : Notes)
     lines = λ k l b y. kept (node_at (length row) q.answer.now k) (m.lines k l b y);
     closed = closed;
     covered = all_covered;
-    noted = noted_like listed (cells_met q) s
+    noted = noted_like listed (cells_for q) s
         (λ k. listed_gaps k ∙ ap (λ t. has t k) (sym (gaps_met_are q)))
         (λ n. listed_numbers n ∙ ap (λ t. has t n) (sym (numbers_met_are q)))
         (noted (cells_in_lines ds ++ (map known row ++ [])) (rw all_lines at m.noted (map known row ++ []) first));

@@ -15,7 +15,7 @@ pub(crate) struct Marked<'n, 'm> {
     ghost fits: { n ≤ length marks.now },
 }
 
-impl<'n, 'm> Marked<'n, 'm> {
+impl<'m> Marked<'_, 'm> {
     ghost use Rattle.std.specs.Prelude.{◌≡◌, ◌<◌};
     ghost use Rattle.condition.specs.Nodes.{decoded};
     ghost use Rattle.condition.specs.Shapes.{Named};
@@ -52,7 +52,7 @@ pub(crate) struct Places<'a> {
     ghost inside: { n ≤ length marks.now },
 }
 
-impl<'a> Iterator for Places<'a> {
+impl Iterator for Places<'_> {
     ghost use Rattle.std.specs.Iterator.{YieldsFirst, item_count};
     ghost use Rattle.decide.specs.Marked.{places_left};
 

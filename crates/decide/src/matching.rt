@@ -11,16 +11,18 @@ use crate::sought::Sought;
 use condition::Cell;
 use list::{line_cell, line_node};
 
-// Marks the conditions of the lines that decide a row, and notes the cells of these lines.
-pub(crate) fn mark_lines(sought: &Sought, marks: &mut [bool], notes: &mut Notes)
-    requires { count sought.now.nodes.now ≤ length marks.old }
-    ensures { Matched sought.now sought.now.lines marks.old marks.new notes.old notes.new }
-{
-    for i in 0..sought.lines {
-        let line = sought.line(i);
-        if agrees(line, sought.row) {
-            marks[line_node(line) as usize] = true;
-            notes.note_line(line, sought.row.len());
+impl Sought<'_> {
+    // Marks the conditions of the lines that decide the row, and notes the cells of these lines.
+    pub(crate) fn mark_lines(&self, marks: &mut [bool], notes: &mut Notes)
+        requires { count self.now.nodes.now ≤ length marks.old }
+        ensures { Matched self.now self.now.lines marks.old marks.new notes.old notes.new }
+    {
+        for i in 0..self.lines {
+            let line = self.line(i);
+            if agrees(line, self.row) {
+                marks[line_node(line) as usize] = true;
+                notes.note_line(line, self.row.len());
+            }
         }
     }
 }

@@ -13,7 +13,6 @@ use crate::coning::build_cone;
 use crate::lanes::Rails;
 use crate::noting::Notes;
 use crate::sought::Sought;
-use crate::surveying::survey;
 use crate::trying::try_all;
 use condition::Refusal;
 use std::alloc::Global;
@@ -96,7 +95,7 @@ fn decide_marked(
         lines: lines as usize,
         row,
     };
-    let notes = survey(&sought, marks);
+    let notes = sought.survey(marks);
     let gaps = check_named_few(&sought, marks, &notes)?;
     settle_row(heap, &sought, marks, &notes, &gaps)
 }

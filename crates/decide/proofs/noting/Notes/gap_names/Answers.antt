@@ -1,4 +1,4 @@
-use Rattle.std.proofs.Common.{◌+◌, ◌<◌, lit<, length, append-nil, sym, ap, ◌∙◌, arith}
+use Rattle.std.proofs.Common.{◌+◌, lit<, length, append-nil, sym, ap, ◌∙◌, arith}
 use Rattle.decide.specs.Noting.{gap_noted}
 use Rattle.decide.proofs.Counted.{counted_yes, counted_more}
 use Rattle.decide.proofs.Passing.{passing_none, passing_yes, passing_no, length-passing_below}

@@ -1,5 +1,4 @@
 use Rattle.std.proofs.Common.{ap, ◌∙◌}
-use Rattle.condition.specs.Nodes.{decoded}
 use Rattle.decide.specs.Marked.{places_left}
 use Rattle.decide.specs.Reaching.{own_cells, cells_among}
 use Rattle.decide.proofs.Noted.{notes_then}

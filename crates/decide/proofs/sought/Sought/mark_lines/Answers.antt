@@ -1,14 +1,14 @@
 use Rattle.std.proofs.Common.{sym, ◌∙◌, arith}
 use Rattle.decide.proofs.Matched.{matched_none, matched_pass, matched_more}
-use Rattle.decide.proofs.matching.mark_lines.Goals as goal
-use Rattle.decide.proofs.matching.mark_lines.Goals.{then-agrees, else-agrees}
+use Rattle.decide.proofs.sought.Sought.mark_lines.Goals as goal
+use Rattle.decide.proofs.sought.Sought.mark_lines.Goals.{then-agrees, else-agrees}
 
 pub loop-i-init : goal.loop-i-init
-loop-i-init c = matched_none c.args.sought.now c.args.marks.now c.args.notes.now
+loop-i-init c = matched_none c.args.self.now c.args.marks.now c.args.notes.now
 
 pub loop-i-preserved : goal.loop-i-preserved
 loop-i-preserved c =
-    let q = c.args.sought.now in
+    let q = c.args.self.now in
     let r = c.line-line.ensures.is in
     elim c.if-agrees.branch [
       | then-agrees w ↦

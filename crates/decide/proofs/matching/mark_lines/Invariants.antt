@@ -1,5 +1,0 @@
-use Rattle.decide.specs.Matching.{Matched}
-use Rattle.decide.proofs.matching.mark_lines.Given as goal
-
-abbrev pub invariant-loop-i : goal.invariant-loop-i
-invariant-loop-i l = Matched l.sought l.i l.initial.marks l.marks l.initial.notes l.notes
