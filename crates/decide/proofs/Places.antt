@@ -1,7 +1,8 @@
 -- A walk over the numbers that pass a test, and over the marked places.
-use Rattle.std.proofs.Common.{◌≡◌, ℕ, suc, ◌+◌, ◌-◌, ◌<◌, ◌≤◌, Bool, true, false, cond as if, List, [], ◌∷◌, filter, length, get_or, Some, Option, refl, ap, ◌∙◌, arith}
+use Rattle.std.proofs.Common.{◌≡◌, ℕ, zero, suc, ◌+◌, ◌-◌, ◌<◌, ◌≤◌, Bool, true, false, cond as if, List, [], ◌∷◌, filter, length, get_or, Some, Option, refl, ap, ◌∙◌, inl, inr, arith}
 use Rattle.std.specs.List.{range_with_len}
 use Rattle.std.specs.Iterator.{Yields, YieldsFirst}
+use Rattle.std.proofs.lemmas.Bool.{cases_lt}
 use Rattle.std.proofs.lemmas.List.{get_or_default}
 use Rattle.std.proofs.lemmas.Iterator.Consumers.{YieldsList-from_first, YieldsList-turn}
 use Rattle.condition.specs.Cond.{has}
@@ -23,6 +24,28 @@ left_yes p at n l h = left_step p at n true l h
 
 pub left_no : (p : ℕ → Bool) (at n : ℕ) → at < n → p at ≡ false → filter p (range_with_len at (n - at)) ≡ filter p (range_with_len (at + 1) (n - (at + 1)))
 left_no p at n l h = left_step p at n false l h
+
+-- up to the first that passes, or to the end
+left_gap : (p : ℕ → Bool) (at d n : ℕ) → at + d ≤ n → ((k : ℕ) → at ≤ k → k < at + d → p k ≡ false) →
+    filter p (range_with_len at (n - at)) ≡ filter p (range_with_len (at + d) (n - (at + d)))
+left_gap p at zero n l h = let e : at + 0 ≡ at = omega arith in rw e refl
+left_gap p at (suc d) n l h =
+    let e : at + 1 + d ≡ at + suc d = omega arith in
+    left_no p at n (omega arith) (h at (omega arith) (omega arith)) ∙ rw e at (left_gap p (at + 1) d n (omega arith) (λ k a b. h k (omega arith) (omega arith)))
+
+pub left_all : (p : ℕ → Bool) (at n : ℕ) → ((k : ℕ) → at ≤ k → k < n → p k ≡ false) → filter p (range_with_len at (n - at)) ≡ []
+left_all p at n h = elim (cases_lt at n) [
+  | inl l ↦
+      let e : at + (n - at) ≡ n = omega arith in
+      rw e at (left_gap p at (n - at) n (omega arith) (λ k a b. h k a (omega arith))) ∙ left_none p n n (omega arith)
+  | inr l ↦ left_none p at n l
+]
+
+pub left_first : (p : ℕ → Bool) (at place n : ℕ) → at ≤ place → place < n → p place ≡ true → ((k : ℕ) → at ≤ k → k < place → p k ≡ false) →
+    filter p (range_with_len at (n - at)) ≡ place ∷ filter p (range_with_len (place + 1) (n - (place + 1)))
+left_first p at place n a l y h =
+    let e : at + (place - at) ≡ place = omega arith in
+    rw e at (left_gap p at (place - at) n (omega arith) (λ k b i. h k b (omega arith))) ∙ left_yes p place n l y
 
 -- a marked place that the walk comes to lies inside
 pub place_inside : (ms : List Bool) (n : ℕ) (s t u : Places) (xs : List ℕ) (r : Option ℕ) (i : ℕ) → places_left s ≡ marked_places ms n →

@@ -63,13 +63,8 @@ impl Iterator for Places<'_> {
     ghost remaining = { item_count places_left };
 
     fn next(&mut self) -> Option<usize> {
-        while self.at < self.n {
-            let place = self.at;
-            self.at += 1;
-            if self.marks[place] {
-                return Some(place);
-            }
-        }
-        None
+        let place = (self.at..self.n).find(|place| self.marks[*place])?;
+        self.at = place + 1;
+        Some(place)
     }
 }
