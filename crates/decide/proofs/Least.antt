@@ -4,11 +4,12 @@ use Rattle.std.specs.List.{reduce}
 use Rattle.std.proofs.lemmas.Bool.{cases_lt, cases_Bool, eqb-true, ne_eqb, le-leb, leb-true, and_parts, or_from, or_cases}
 use Rattle.condition.specs.Cond.{numbers_in, has}
 use Rattle.condition.specs.Nodes.{decoded}
-use Rattle.condition.proofs.Lists.{has_none, has_cons, has_head, has_tail, has_app}
+use Rattle.condition.proofs.Lists.{has_none, has_cons, has_head, has_tail}
 use Rattle.condition.proofs.Named.{numbers_app}
 use Rattle.decide.specs.Counting.{counted, Least}
 use Rattle.decide.specs.Reaching.{own_cells, cells_among}
 use Rattle.decide.proofs.Counted.{counted_yes, counted_gap}
+use Rattle.decide.proofs.Noted.{has_turned}
 use Rattle.decide.proofs.Passing.{among_last}
 
 lacks_cons : (m : ℕ) (ms : List ℕ) (k : ℕ) → (m ≡ k → ⊥) → has ms k ≡ false → has (m ∷ ms) k ≡ false
@@ -126,13 +127,7 @@ pub least_among : (nodes places row : List ℕ) (i low : ℕ) (r : Option ℕ) �
 least_among nodes places row i low r h =
     let xs = numbers_in (cells_among nodes places) in let ys = numbers_in (own_cells (decoded nodes i)) in
     rw (among_last nodes places i, numbers_app (cells_among nodes places) (own_cells (decoded nodes i)))
-    (least_like (ys ++ (xs ++ row)) ((xs ++ ys) ++ row) low r (λ k. rw (has_app ys (xs ++ row) k, has_app xs row k, has_app (xs ++ ys) row k, has_app xs ys k) (turned (has xs k) (has ys k) (has row k))) h)
-  where
-    turned : (a b c : Bool) → (b || (a || c)) ≡ ((a || b) || c)
-    turned true true c = refl
-    turned true false c = refl
-    turned false true c = refl
-    turned false false c = refl
+    (least_like (ys ++ (xs ++ row)) ((xs ++ ys) ++ row) low r (has_turned xs ys row) h)
 
 pub least_from : (xs : List ℕ) (low x : ℕ) → Least xs low (Some x) → low ≤ x
 unfolding Least

@@ -113,22 +113,23 @@ noted_like cs ds s g n h = record {
   all = λ p k o. h.all p k (n k ∙ o);
 }
 
+-- lists joined in another order have the same
+pub has_turned : (xs ys zs : List ℕ) (k : ℕ) → has (ys ++ (xs ++ zs)) k ≡ has ((xs ++ ys) ++ zs) k
+has_turned xs ys zs k = rw (has_app ys (xs ++ zs) k, has_app xs zs k, has_app (xs ++ ys) zs k, has_app xs ys k) (turn (has xs k) (has ys k) (has zs k))
+  where
+    turn : (a b c : Bool) → (b || (a || c)) ≡ ((a || b) || c)
+    turn true true c = refl
+    turn true false c = refl
+    turn false true c = refl
+    turn false false c = refl
+
 -- some cells after others
 module _ (cs ds es : List Cell) where
-  turned : (a b c : Bool) → (b || (a || c)) ≡ ((a || b) || c)
-  turned true true c = refl
-  turned true false c = refl
-  turned false true c = refl
-  turned false false c = refl
-
-  turned_has : (xs ys zs : List ℕ) (k : ℕ) → has (ys ++ (xs ++ zs)) k ≡ has ((xs ++ ys) ++ zs) k
-  turned_has xs ys zs k = rw (has_app ys (xs ++ zs) k, has_app xs zs k, has_app (xs ++ ys) zs k, has_app xs ys k) (turned (has xs k) (has ys k) (has zs k))
-
   turned_gaps : (k : ℕ) → has (gaps_in (ds ++ (cs ++ es))) k ≡ has (gaps_in ((cs ++ ds) ++ es)) k
-  turned_gaps k = rw (gaps_app ds (cs ++ es), gaps_app cs es, gaps_app (cs ++ ds) es, gaps_app cs ds) (turned_has (gaps_in cs) (gaps_in ds) (gaps_in es) k)
+  turned_gaps k = rw (gaps_app ds (cs ++ es), gaps_app cs es, gaps_app (cs ++ ds) es, gaps_app cs ds) (has_turned (gaps_in cs) (gaps_in ds) (gaps_in es) k)
 
   turned_numbers : (k : ℕ) → has (numbers_in (ds ++ (cs ++ es))) k ≡ has (numbers_in ((cs ++ ds) ++ es)) k
-  turned_numbers k = rw (numbers_app ds (cs ++ es), numbers_app cs es, numbers_app (cs ++ ds) es, numbers_app cs ds) (turned_has (numbers_in cs) (numbers_in ds) (numbers_in es) k)
+  turned_numbers k = rw (numbers_app ds (cs ++ es), numbers_app cs es, numbers_app (cs ++ ds) es, numbers_app cs ds) (has_turned (numbers_in cs) (numbers_in ds) (numbers_in es) k)
 
 pub notes_then : (cs ds : List Cell) (s t u : Notes) → NotesMore cs s t → NotesMore ds t u → NotesMore (cs ++ ds) s u
 notes_then cs ds s t u f g es h = noted_like (ds ++ (cs ++ es)) ((cs ++ ds) ++ es) u (turned_gaps cs ds es) (turned_numbers cs ds es) (g (cs ++ es) (f es h))

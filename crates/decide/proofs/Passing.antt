@@ -1,4 +1,4 @@
--- Laws of `passing_below`: the numbers that pass a test, in rising order.
+-- Laws of `passing_below`, the numbers that pass a test, in rising order; and of the cells that marked nodes compare.
 use Rattle.std.proofs.Common.{◌≡◌, ℕ, zero, suc, ◌+◌, ◌<◌, ◌≤◌, Bool, true, false, cond as if, List, [], ◌∷◌, ◌++◌, filter, length, get_or, take, sym, refl, ap, ◌∙◌, inl, inr, ⊎_elim, append-nil, arith, length-append, take_all}
 use Rattle.std.specs.List.{count_by, range_with_len}
 use Rattle.std.proofs.lemmas.Bool.{cases_Bool, cases_eq, eqb-true, or_cases}
