@@ -1,13 +1,13 @@
 // What is passed in to deciding, checked.
 ghost use Rattle.std.specs.Prelude.{◌≡◌, ◌*◌, ◌≤◌, length, IfOk};
 ghost use Rattle.condition.specs.Refusals.{outcome};
-ghost use Rattle.condition.specs.Store.{count};
 ghost use Rattle.list.specs.Layout.{line_size};
 ghost use Rattle.decide.specs.Sought.{known_of, deciding_of};
 ghost use Rattle.decide.specs.Standing.{whole_lines, answer_told, nine_told, Checked};
 ghost use Rattle.decide.specs.Surveying.{Surveyed, FewNamed};
 
 use crate::counting::count_numbers;
+use crate::marked::Marks;
 use crate::noting::Notes;
 use crate::sought::Sought;
 use arrayvec::ArrayVec;
@@ -53,10 +53,9 @@ pub(crate) fn check_answer(
 // The gaps that decide a row, where they are at most six, and the numbers that decide it at most eight.
 pub(crate) fn check_named_few(
     sought: &Sought,
-    marks: &[bool],
+    marks: &Marks,
     notes: &Notes,
 ) -> Result<ArrayVec<u64, 6>, Refusal>
-    requires { count sought.now.nodes.now ≤ length marks.now }
     ensures refusal { Surveyed sought.now marks.now notes.now → outcome result ≡ nine_told (known_of sought.now) (deciding_of sought.now) sought.now.row.now }
     ensures value { IfOk result (λ gaps. FewNamed notes.now gaps.items) }
 {

@@ -2,7 +2,10 @@
 ghost use Rattle.std.specs.Prelude.{◌≡◌, ◌+◌, ◌*◌, ◌≤◌, length};
 ghost use Rattle.condition.specs.Store.{count};
 
-use condition::{Node, node_at};
+use condition::{MOST_NODES, Node, node_at};
+
+// A mark for each node that a store may have.
+pub(crate) type Marks = [bool; MOST_NODES as usize];
 
 // The first n nodes of a store, some of them marked.
 #[derive(Clone, Copy)]

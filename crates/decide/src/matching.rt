@@ -1,11 +1,11 @@
 // The lines of an answer that decide a row.
 ghost use Rattle.std.specs.Prelude.{◌≡◌, ◌≤◌, length, drop};
 ghost use Rattle.condition.specs.Shapes.{cell_of};
-ghost use Rattle.condition.specs.Store.{count};
 ghost use Rattle.list.specs.Layout.{line_size, cells_in};
 ghost use Rattle.decide.specs.Deciding.{agrees_cell, agrees};
 ghost use Rattle.decide.specs.Matching.{Matched};
 
+use crate::marked::Marks;
 use crate::noting::Notes;
 use crate::sought::Sought;
 use condition::Cell;
@@ -13,8 +13,7 @@ use list::{line_cell, line_node};
 
 impl Sought<'_> {
     // Marks the conditions of the lines that decide the row, and notes the cells of these lines.
-    pub(crate) fn mark_lines(&self, marks: &mut [bool], notes: &mut Notes)
-        requires { count self.now.nodes.now ≤ length marks.old }
+    pub(crate) fn mark_lines(&self, marks: &mut Marks, notes: &mut Notes)
         ensures { Matched self.now self.now.lines marks.old marks.new notes.old notes.new }
     {
         for i in 0..self.lines {

@@ -1,6 +1,5 @@
 // Deciding how a row stands in an answer.
-ghost use Rattle.std.specs.Prelude.{◌≡◌, ◌≤◌, length, IfOk, IfErr};
-ghost use Rattle.condition.specs.Store.{count};
+ghost use Rattle.std.specs.Prelude.{◌≡◌, IfOk, IfErr};
 ghost use Rattle.condition.specs.declared.Refusal.TheVariants.{NoMemory};
 ghost use Rattle.list.specs.Layout.{lines_in, known_in};
 ghost use Rattle.decide.specs.Sought.{known_of, lines_of};
@@ -11,10 +10,11 @@ use crate::Standing;
 use crate::checking::{check_answer, check_named_few};
 use crate::coning::build_cone;
 use crate::lanes::Rails;
+use crate::marked::Marks;
 use crate::noting::Notes;
 use crate::sought::Sought;
 use crate::trying::try_all;
-use condition::Refusal;
+use condition::{MOST_NODES, Refusal};
 use std::alloc::Global;
 
 // How a row stands in an answer of so many lines, so many cells wide, over all fillings of all numbers that fit what is known. Nothing
@@ -31,7 +31,7 @@ pub fn decide_row(
     ensures refusal { DecideTold lists.now nodes.now answer.now lines width row.now result }
     ensures decided { IfOk result (Decided (known_in nodes.now lists.now) (lines_in nodes.now lines width answer.now) row.now) }
 {
-    let mut marks = [false; 131072];
+    let mut marks = [false; MOST_NODES as usize];
     decide_marked(heap, lists, nodes, answer, lines, width, row, &mut marks)
 }
 
@@ -78,9 +78,8 @@ fn decide_marked(
     lines: u64,
     width: u64,
     row: &[u64],
-    marks: &mut [bool],
+    marks: &mut Marks,
 ) -> Result<Standing, Refusal>
-    requires { 131072 ≤ length marks.old }
     ensures refusal { DecideTold lists.now nodes.now answer.now lines width row.now result }
     ensures decided { IfOk result (Decided (known_in nodes.now lists.now) (lines_in nodes.now lines width answer.now) row.now) }
 {
@@ -104,11 +103,10 @@ fn decide_marked(
 fn settle_row(
     heap: Global,
     sought: &Sought,
-    marks: &[bool],
+    marks: &Marks,
     notes: &Notes,
     gaps: &[u64],
 ) -> Result<Standing, Refusal>
-    requires marks { count sought.now.nodes.now ≤ length marks.now }
     requires surveyed { Surveyed sought.now marks.now notes.now }
     requires few { FewNamed notes.now gaps.now }
     ensures refused { IfErr result (λ e. e ≡ NoMemory) }

@@ -3,7 +3,7 @@ ghost use Rattle.std.specs.Prelude.{◌≡◌, ◌+◌, ◌*◌, ◌<◌, ◌≤
 ghost use Rattle.condition.specs.Store.{count};
 ghost use Rattle.list.specs.Layout.{line_size, lines_fit, lines_named};
 
-use crate::marked::Marked;
+use crate::marked::{Marked, Marks};
 
 // A store, the place of what is known in it, an answer of so many lines, and a row that is as wide.
 #[derive(Clone, Copy)]
@@ -14,6 +14,7 @@ pub(crate) struct Sought<'a> {
     pub(crate) lines: usize,
     pub(crate) row: &'a [u64],
     ghost store: { 1 + 5 * count nodes.now ≤ length nodes.now },
+    ghost small: { count nodes.now ≤ 131072 },
     ghost stands: { known < count nodes.now },
     ghost whole: { lines * line_size (length row.now) ≤ length answer.now },
     ghost cells: { lines_fit lines (length row.now) answer.now ≡ true },
@@ -45,8 +46,7 @@ impl<'a> Sought<'a> {
     }
 
     // The nodes of the store, with these marks.
-    pub(crate) fn marked<'m>(&self, marks: &'m [bool]) -> Marked<'a, 'm>
-        requires { count self.now.nodes.now ≤ length marks.now }
+    pub(crate) fn marked<'m>(&self, marks: &'m Marks) -> Marked<'a, 'm>
         ensures nodes { result.nodes.now ≡ self.now.nodes.now }
         ensures all { result.n ≡ count self.now.nodes.now }
         ensures marks { result.marks.now ≡ marks.now }

@@ -14,7 +14,7 @@ loop-i-preserved c =
       | then-agrees w ↦
           rw (w.marks-is, w.notes-is, w.line_node.ensures, r)
           (matched_more q c.loop-i.i c.loop-i-test.true c.args.marks.now c.loop-i.marks c.args.notes.now c.loop-i.notes c.loop-i.invariant w.note_line.new.self
-          (sym (rw r at c.agrees.ensures) ∙ w.if-agrees.true) (rw r at c.line-line.ensures.named) (omega (arith, c.loop-i.auto.marks, c.requires)) (rw r at w.note_line.ensures))
+          (sym (rw r at c.agrees.ensures) ∙ w.if-agrees.true) (rw r at c.line-line.ensures.named) (omega (arith, q.small)) (rw r at w.note_line.ensures))
       | else-agrees w ↦
           rw (w.marks-is, w.notes-is)
           (matched_pass q c.loop-i.i c.loop-i-test.true c.args.marks.now c.loop-i.marks c.args.notes.now c.loop-i.notes c.loop-i.invariant (sym (rw r at c.agrees.ensures) ∙ w.if-agrees.false))
