@@ -1,6 +1,10 @@
 // Nodes of a store, some of them marked.
-ghost use Rattle.std.specs.Prelude.{◌≡◌, ◌+◌, ◌*◌, ◌≤◌, length};
+ghost use Rattle.std.specs.Prelude.{◌≡◌, ◌+◌, ◌*◌, ◌<◌, ◌≤◌, length};
+ghost use Rattle.std.specs.Iterator.{YieldsFirst, item_count};
 ghost use Rattle.condition.specs.Store.{count};
+ghost use Rattle.condition.specs.Shapes.{Named};
+ghost use Rattle.condition.specs.Nodes.{decoded};
+ghost use Rattle.decide.specs.Reaching.{marked_places};
 
 use condition::{MOST_NODES, Node, node_at};
 
@@ -19,10 +23,6 @@ pub(crate) struct Marked<'n, 'm> {
 }
 
 impl<'m> Marked<'_, 'm> {
-    ghost use Rattle.std.specs.Prelude.{◌≡◌, ◌<◌};
-    ghost use Rattle.condition.specs.Nodes.{decoded};
-    ghost use Rattle.condition.specs.Shapes.{Named};
-    ghost use Rattle.decide.specs.Reaching.{marked_places};
     ghost use Rattle.decide.specs.Marked.{places_left};
 
     // The places of the marked nodes, in rising order.
@@ -56,7 +56,6 @@ pub(crate) struct Places<'a> {
 }
 
 impl Iterator for Places<'_> {
-    ghost use Rattle.std.specs.Iterator.{YieldsFirst, item_count};
     ghost use Rattle.decide.specs.Marked.{places_left};
 
     type Item = usize;

@@ -1,7 +1,7 @@
 // A row looked for in an answer over a store.
-ghost use Rattle.std.specs.Prelude.{◌≡◌, ◌+◌, ◌*◌, ◌<◌, ◌≤◌, true, length};
+ghost use Rattle.std.specs.Prelude.{◌≡◌, ◌+◌, ◌*◌, ◌<◌, ◌≤◌, true, length, drop, slice_index};
 ghost use Rattle.condition.specs.Store.{count};
-ghost use Rattle.list.specs.Layout.{line_size, lines_fit, lines_named};
+ghost use Rattle.list.specs.Layout.{line_size, cells_fit, lines_fit, lines_named};
 
 use crate::marked::{Marked, Marks};
 
@@ -22,9 +22,6 @@ pub(crate) struct Sought<'a> {
 }
 
 impl<'a> Sought<'a> {
-    ghost use Rattle.std.specs.Prelude.{◌≡◌, ◌<◌, ◌≤◌, true, length, drop, slice_index};
-    ghost use Rattle.condition.specs.Store.{count};
-    ghost use Rattle.list.specs.Layout.{line_size, cells_fit};
     ghost use Rattle.decide.specs.Sought.{line_of};
 
     // How many nodes the store has.
