@@ -1,9 +1,11 @@
 -- Laws of `counted`.
-use Rattle.std.proofs.Common.{◌≡◌, ℕ, zero, suc, ◌+◌, ◌<◌, ◌≤◌, Bool, true, false, cond as if, not, ◌&&◌, eqb, ◌⊎◌, List, [], ◌∷◌, length, get_or, take, count_by, sym, refl, ap, ◌∙◌, inl, inr, ⊎_elim, arith}
+use Rattle.std.proofs.Common.{◌≡◌, ℕ, zero, suc, ◌+◌, ◌<◌, ◌≤◌, Bool, true, false, cond as if, not, ◌&&◌, eqb, ◌⊎◌, List, [], ◌∷◌, length, get_or, take, count_by, sym, refl, ap, ◌∙◌, subst, inl, inr, ⊎_elim, arith}
+use Rattle.std.specs.List.{AllByRecursion, IsDistinct}
 use Rattle.std.proofs.lemmas.List.Sums.{count_by_more_yes, count_by_more_no}
-use Rattle.std.proofs.lemmas.Bool.{both_ways, cases_lt, cases_eq, cases_Bool, eq-eqb, ne_eqb, and_parts, and_from, or_cases, not-true, not_from_false}
+use Rattle.std.proofs.lemmas.Map.Keys.{IsDistinct-head, IsDistinct-tail}
+use Rattle.std.proofs.lemmas.Bool.{both_ways, cases_lt, cases_eq, cases_Bool, eqb-true, eq-eqb, ne_eqb, and_parts, and_from, or_cases, not-true, not_from_false}
 use Rattle.condition.specs.Cond.{has}
-use Rattle.condition.proofs.Lists.{has_none, has_cons}
+use Rattle.condition.proofs.Lists.{has_none, has_cons, has_head, has_tail}
 use Rattle.decide.specs.Counting.{counted}
 
 pub counted_zero : (p : ℕ → Bool) → counted 0 p ≡ 0
@@ -107,16 +109,19 @@ counted_listed n p (x ∷ xs) h =
           ⊎_elim (λ e. absurd (both_ways (eqb x k) (not-true (eqb x k) y.1) e)) (λ o. o) (or_cases (eqb x k) (has xs k) (sym (has_cons x xs k) ∙ h k y.0))),
     )
 
--- m different numbers that pass are no more than all
-pub counted_apart : (n : ℕ) (p : ℕ → Bool) (xs : List ℕ) (m : ℕ) →
-    ((i j : ℕ) → i < j → j < m → get_or xs i 0 ≡ get_or xs j 0 → ⊥) → ((i : ℕ) → i < m → get_or xs i 0 < n) → ((i : ℕ) → i < m → p (get_or xs i 0) ≡ true) → m ≤ counted n p
-counted_apart n p xs zero a b h = omega arith
-counted_apart n p xs (suc m) a b h =
+all_has : (P : ℕ → Type 0) (xs : List ℕ) (k : ℕ) → AllByRecursion P xs → has xs k ≡ true → P k
+all_has P [] k a h = absurd (has_none k h)
+all_has P (x ∷ xs) k a h = ⊎_elim (λ e. subst P (eqb-true x k e) a.0) (λ o. all_has P xs k a.1 o) (or_cases (eqb x k) (has xs k) (sym (has_cons x xs k) ∙ h))
+
+-- different numbers that pass are no more than all
+pub counted_apart : (n : ℕ) (p : ℕ → Bool) (xs : List ℕ) → IsDistinct eqb xs → ((k : ℕ) → has xs k ≡ true → k < n) → ((k : ℕ) → has xs k ≡ true → p k ≡ true) → length xs ≤ counted n p
+counted_apart n p [] a b h = omega arith
+counted_apart n p (x ∷ xs) a b h =
     omega (
       arith,
-      counted_but n p (get_or xs m 0) (b m (omega arith)) (h m (omega arith)),
-      counted_apart n (but p (get_or xs m 0)) xs m (λ i j l k. a i j l (omega arith)) (λ i l. b i (omega arith))
-          (λ i l. and_from (p (get_or xs i 0)) _ (h i (omega arith)) (not_from_false _ (ne_eqb (get_or xs m 0) (get_or xs i 0) (λ e. a i m l (omega arith) (sym e))))),
+      counted_but n p x (b x (has_head x xs)) (h x (has_head x xs)),
+      counted_apart n (but p x) xs (IsDistinct-tail eqb x xs a) (λ k o. b k (has_tail x xs k o))
+          (λ k o. and_from (p k) _ (h k (has_tail x xs k o)) (not_from_false _ (all_has (λ y. eqb x y ≡ false) xs k (IsDistinct-head eqb x xs a) o))),
     )
 
 -- the numbers that pass are as many as the elements at their places that pass

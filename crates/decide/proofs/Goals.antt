@@ -1,30 +1,32 @@
 -- The two goals of a search, and how the row stands by them.
-use Rattle.std.proofs.Common.{◌≡◌, ℕ, zero, suc, ◌^◌, ◌<◌, ◌≤◌, Bool, true, false, eqb, List, [], ◌∷◌, ◌++◌, map, length, get_or, take, is_some, Some, None, Option, sym, refl, ◌∙◌, inl, inr, ⊎_elim, arith, length-take}
-use Rattle.std.proofs.lemmas.List.{get_or-take, get_or_past}
-use Rattle.std.proofs.lemmas.Bool.{both_ways, cases_lt, eqb-true, or_cases}
+use Rattle.std.proofs.Common.{◌≡◌, ℕ, ◌≤◌, Bool, true, false, List, [], ◌∷◌, ◌++◌, map, length, get_or, is_some, Some, None, Option, sym, refl, ap, ◌∙◌, inl, inr, arith}
+use Rattle.std.proofs.lemmas.List.{get_or_past}
+use Rattle.std.proofs.lemmas.Bool.{both_ways, cases_lt}
 use Rattle.condition.specs.Cond.{Cell, known, Cond, both, not_so, cells_of, numbers_in, has, Within}
 use Rattle.condition.specs.Store.{cond_at}
-use Rattle.condition.proofs.Lists.{has_none, has_cons, has_left, has_right}
+use Rattle.condition.proofs.Lists.{has_left, has_right, has_at}
 use Rattle.evaluate.specs.Filling as fillings
 use Rattle.evaluate.specs.Filling.{holds}
 use Rattle.evaluate.specs.Shapes.{numbers_of}
 use Rattle.evaluate.specs.declared.Filling.{Filling}
 use Rattle.evaluate.proofs.Holding.{holds_both, holds_not}
 use Rattle.list.specs.Lists.{Line, Row}
-use Rattle.decide.specs.Deciding.{gives, shows, deciding, cells_in_lines, conds_in_lines}
+use Rattle.decide.specs.Deciding.{gives, shows, cells_in_lines, conds_in_lines}
 use Rattle.decide.specs.Cones.{Coned}
-use Rattle.decide.specs.Counting.{Rising}
 use Rattle.decide.specs.Goals.{goal_of}
 use Rattle.decide.specs.Noting.{gap_noted, numbers_noted}
 use Rattle.decide.specs.Reaching.{Covers}
+use Rattle.decide.specs.Sought.{known_of, lines_of, deciding_of}
 use Rattle.decide.specs.Standing.{named_cells, standing, Decided}
-use Rattle.decide.specs.Surveying.{numbers_met, gaps_met, Surveyed}
+use Rattle.decide.specs.Surveying.{numbers_met, gaps_met, numbers_for, gaps_for, Surveyed, FewNamed}
 use Rattle.decide.specs.Trying.{Tried, Names}
 use Rattle.decide.specs.declared.noting.Notes.{Notes}
+use Rattle.decide.specs.declared.sought.Sought.{Sought}
 use Rattle.decide.specs.declared.task.Goal.{Goal}
 use Rattle.decide.proofs.Coverage.{covers_none, covers_both, covers_left, covers_right, covers_self, covers_more}
+use Rattle.decide.proofs.Passing.{passing_has, passing_low}
 use Rattle.decide.proofs.Settled.{Tells, decided}
-use Rattle.decide.proofs.Surveyed.{row_covered}
+use Rattle.decide.proofs.Surveyed.{row_covered, numbers_met_are, gaps_met_are}
 
 -- the cells that the condition for a row compares
 gives_covered : (ns gs : List ℕ) (cs : List Cell) (row : Row) → Covers ns gs cs → Covers ns gs (map known row) → Covers ns gs (cells_of (gives cs row))
@@ -58,36 +60,28 @@ both_met what ls row =
     (shows_covered ns gs ls row (covers_left ns gs (conds_in_lines ls) (cells_in_lines ls) r) (covers_right ns gs (conds_in_lines ls) (cells_in_lines ls) r)
     (row_covered ns gs row (λ n h. has_right (numbers_in (named_cells what ls)) row n h)))
 
--- what holds of the first of a list holds of each of them
-pub each_below : (xs : List ℕ) (m b n : ℕ) → ((i : ℕ) → i < m → get_or xs i 0 < b) → has (take m xs) n ≡ true → n < b
-each_below [] zero b n h e = absurd (has_none n e)
-each_below [] (suc m) b n h e = absurd (has_none n e)
-each_below (x ∷ xs) zero b n h e = absurd (has_none n e)
-each_below (x ∷ xs) (suc m) b n h e =
-    ⊎_elim (λ t. let q : x ≡ n = eqb-true x n t in omega (arith, h 0 (omega arith))) (λ t. each_below xs m b n (λ i l. h (suc i) (omega arith)) t)
-    (or_cases (eqb x n) (has (take m xs) n) (sym (has_cons x (take m xs) n) ∙ e))
-
-module _ (nodes : List ℕ) (what : Cond) (ls : List Line) (row : Row) (c : ℕ) (ms : List Bool) (s : Notes) (y : Surveyed nodes what ls row c ms s)
-    (at : List ℕ) (m : ℕ) (r : Rising (gap_noted s) 64 at m) (few : s.many ≤ 8) where
+module _ (q : Sought) (ms : List Bool) (s : Notes) (y : Surveyed q ms s) (names : List ℕ) (f : FewNamed s names) where
   -- the gaps and numbers that count are those that are tried
-  gaps_tried : Within (gaps_met what ls) (take m at)
+  gaps_tried : Within (gaps_for q) names
   unfolding Within
-  gaps_tried k h = elim (cases_lt k 64) [
-    | inl l ↦ r.all k l (y.gaps k ∙ h)
-    | inr l ↦ let p : length s.gaps ≤ k = omega (arith, y.long) in absurd (both_ways (has (gaps_met what ls) k) (sym (y.gaps k) ∙ get_or_past s.gaps k false p) h)
-  ]
+  gaps_tried k h =
+      let o : gap_noted s k ≡ true = y.noted.gaps k ∙ (ap (λ t. has t k) (gaps_met_are q) ∙ h) in
+      rw f.gaps (elim (cases_lt k 64) [
+        | inl l ↦ passing_has 64 (gap_noted s) k l o
+        | inr l ↦ let p : length s.gaps ≤ k = omega (arith, y.noted.long) in absurd (both_ways (gap_noted s k) (get_or_past s.gaps k false p) o)
+      ])
 
-  numbers_tried : Within (numbers_met what ls row) (numbers_noted s)
+  numbers_tried : Within (numbers_for q) (numbers_noted s)
   unfolding Within
-  numbers_tried n h = y.all (omega arith) n h
+  numbers_tried n h = y.noted.all (omega (arith, f.numbers)) n (ap (λ t. has t n) (numbers_met_are q) ∙ h)
 
-  pub goal_named : (cone : List ℕ) (goal : Goal) → Coned what ls row cone goal → Names (goal_of cone goal true) (take m at) (numbers_noted s)
+  pub goal_named : (cone : List ℕ) (goal : Goal) → Coned (known_of q) (deciding_of q) q.row.now cone goal → Names (goal_of cone goal true) names (numbers_noted s)
   unfolding cells_of Within
   goal_named cone goal d =
-      let v : Covers (numbers_met what ls row) (gaps_met what ls) (cells_of (cond_at cone goal.known) ++ cells_of (cond_at cone goal.shows)) =
-      covers_both (numbers_met what ls row) (gaps_met what ls) (cells_of (cond_at cone goal.known)) (cells_of (cond_at cone goal.shows)) d.known_inside d.shows_inside in
+      let v : Covers (numbers_for q) (gaps_for q) (cells_of (cond_at cone goal.known) ++ cells_of (cond_at cone goal.shows)) =
+      covers_both (numbers_for q) (gaps_for q) (cells_of (cond_at cone goal.known)) (cells_of (cond_at cone goal.shows)) d.known_inside d.shows_inside in
       record {
-        low = λ i l. let k : i < m = omega (arith, simp length-take at l) in rw get_or-take (r.below i k);
+        low = λ i l. passing_low 64 (gap_noted s) (get_or names i 0) (ap (λ t. has t (get_or names i 0)) (sym f.gaps) ∙ has_at names i l);
         gaps = λ k h. gaps_tried k (v.gaps k h);
         numbers = λ n h. numbers_tried n (v.numbers n h);
       }
@@ -103,27 +97,30 @@ tells_same b c d e t = (
   λ p. t.1 (p.0, e p.0 ∙ p.1),
 )
 
-module _ (nodes : List ℕ) (what : Cond) (out : List Line) (row : Row) (c : ℕ) (ms : List Bool) (s : Notes) (y : Surveyed nodes what (deciding out row) row c ms s)
-    (at : List ℕ) (m : ℕ) (r : Rising (gap_noted s) 64 at m) (few : s.many ≤ 8) (cone : List ℕ) (goal : Goal) (d : Coned what (deciding out row) row cone goal) where
-  goal_shows : (v : fillings.Filling) → holds v (goal_of cone goal true) ≡ holds v (both what (shows (deciding out row) row))
-  goal_shows v =
-      holds_both v (cond_at cone goal.known) (cond_at cone goal.shows) ∙ cc (d.known v, d.shows v, holds_both v what (shows (deciding out row) row))
+module _ (q : Sought) (ms : List Bool) (s : Notes) (y : Surveyed q ms s) (names : List ℕ) (f : FewNamed s names)
+    (cone : List ℕ) (goal : Goal) (d : Coned (known_of q) (deciding_of q) q.row.now cone goal) where
+  abbrev shown : Cond
+  shown = shows (deciding_of q) q.row.now
 
-  goal_lacks : (v : fillings.Filling) → holds v (goal_of cone goal false) ≡ holds v (both what (not_so (shows (deciding out row) row)))
+  goal_shows : (v : fillings.Filling) → holds v (goal_of cone goal true) ≡ holds v (both (known_of q) shown)
+  goal_shows v =
+      holds_both v (cond_at cone goal.known) (cond_at cone goal.shows) ∙ cc (d.known v, d.shows v, holds_both v (known_of q) shown)
+
+  goal_lacks : (v : fillings.Filling) → holds v (goal_of cone goal false) ≡ holds v (both (known_of q) (not_so shown))
   goal_lacks v =
       holds_both v (cond_at cone goal.known) (not_so (cond_at cone goal.shows))
-      ∙ cc (d.known v, d.shows v, holds_not v (cond_at cone goal.shows), holds_not v (shows (deciding out row) row), holds_both v what (not_so (shows (deciding out row) row)))
+      ∙ cc (d.known v, d.shows v, holds_not v (cond_at cone goal.shows), holds_not v shown, holds_both v (known_of q) (not_so shown))
 
   -- so the row stands as the search says
-  pub stood : (o p : Option Filling) → Tried (goal_of cone goal true) o → Tried (goal_of cone goal false) p → Decided what out row (standing (is_some o) (is_some p))
+  pub stood : (o p : Option Filling) → Tried (goal_of cone goal true) o → Tried (goal_of cone goal false) p → Decided (known_of q) (lines_of q) q.row.now (standing (is_some o) (is_some p))
   unfolding Within
   stood o p h k =
-      let v = both_met what (deciding out row) row in
-      decided what out row (is_some o) (is_some p)
-      (tells_same (is_some o) (goal_of cone goal true) (both what (shows (deciding out row) row)) goal_shows (tells (goal_of cone goal true) o h))
-      (tells_same (is_some p) (goal_of cone goal false) (both what (not_so (shows (deciding out row) row))) goal_lacks (tells (goal_of cone goal false) p k))
-      (numbers_noted s) (take m at)
-      (λ n i. numbers_tried nodes what (deciding out row) row c ms s y at m r few n (v.numbers n i))
-      (λ g i. gaps_tried nodes what (deciding out row) row c ms s y at m r few g (v.gaps g i))
-      (λ n i. each_below s.numbers s.many (2 ^ 64) n y.low i)
-      (let a : length (numbers_noted s) ≤ 9 = simp length-take (omega (arith, y.room)) in let b : length (take m at) ≤ 6 = simp length-take (omega (arith, r.long)) in omega arith)
+      let v = both_met (known_of q) (deciding_of q) q.row.now in
+      decided (known_of q) (lines_of q) q.row.now (is_some o) (is_some p)
+      (tells_same (is_some o) (goal_of cone goal true) (both (known_of q) shown) goal_shows (tells (goal_of cone goal true) o h))
+      (tells_same (is_some p) (goal_of cone goal false) (both (known_of q) (not_so shown)) goal_lacks (tells (goal_of cone goal false) p k))
+      (numbers_noted s) names
+      (λ n i. numbers_tried q ms s y names f n (v.numbers n i))
+      (λ g i. gaps_tried q ms s y names f g (v.gaps g i))
+      y.noted.low
+      (omega (arith, f.few, f.numbers))

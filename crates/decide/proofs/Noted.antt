@@ -1,113 +1,138 @@
--- Laws of `Noted`: one more cell is noted.
-use Rattle.std.proofs.Common.{◌≡◌, ℕ, suc, ◌+◌, ◌^◌, ◌<◌, ◌≤◌, Bool, true, false, ◌||◌, eqb, ◌≢◌, List, [], ◌∷◌, ◌++◌, length, get_or, take, set, replicate, sym, refl, ap, ◌∙◌, inl, inr, ⊎_elim, arith, length-set, length-take}
+-- Laws of `Noted`: one more cell is noted, and cells in another order.
+use Rattle.std.proofs.Common.{◌≡◌, ℕ, ◌^◌, ◌<◌, ◌≤◌, Bool, true, false, ◌||◌, eqb, ◌≢◌, ◌⊎◌, List, [], ◌∷◌, ◌++◌, length, get_or, set, replicate, sym, refl, ap, ◌∙◌, inl, inr, ⊎_elim, arith, length-set}
 use lib.ListN.{length-replicate}
-use Rattle.std.proofs.lemmas.List.{get_or-replicate, get_or_past, get_or-set_same, get_or-set_other, get_or-take, take_more, take_more_set}
-use Rattle.std.proofs.lemmas.Bool.{both_ways, cases_lt, cases_eq, eqb-true, ne_eqb, or_cases}
-use Rattle.condition.specs.Cond.{Cell, known, gap, cells_of, numbers_in, gaps_in, has}
+use Rattle.arrayvec.specs.ArrayVec.{ArrayVec}
+use Rattle.std.specs.List.{list_any, IsDistinct}
+use Rattle.std.proofs.lemmas.List.{get_or-replicate, get_or_past, get_or-set_same, get_or-set_other}
+use Rattle.std.proofs.lemmas.Bool.{cases_lt, cases_eq, eqb-true, ne_eqb, or_cases}
+use Rattle.std.specs.Cmp.{nat_eq_equiv}
+use Rattle.std.proofs.lemmas.Map.Keys.{IsDistinct-push}
+use Rattle.condition.specs.Cond.{Cell, known, gap, cells_of, numbers_in, gaps_in, has, Within}
 use Rattle.condition.specs.Shapes.{cell_of, Named}
-use Rattle.condition.specs.Nodes.{decoded}
 use Rattle.condition.specs.declared.Cell as code
 use Rattle.condition.specs.declared.Node.{Node}
 use Rattle.condition.specs.declared.Node.TheVariants.{Always, Never, Equal, Not, Both, Either}
-use Rattle.condition.proofs.Lists.{has_cons, has_head, has_tail, has_app, has_left, has_right, has_at, has_apart}
-use Rattle.decide.specs.Reaching.{own_cells, marked, marked_cells}
-use Rattle.decide.specs.Noting.{Noted}
+use Rattle.condition.proofs.Lists.{eqb_sym, has_none, has_cons, has_head, has_tail, has_app, has_left, has_right}
+use Rattle.condition.proofs.Named.{numbers_app, gaps_app}
+use Rattle.decide.specs.Reaching.{own_cells}
+use Rattle.decide.specs.Noting.{Noted, NotesMore}
+use Rattle.decide.specs.declared.noting.Notes.{Notes}
 
-pub has_take_more : (ns : List ℕ) (i n : ℕ) → i < length ns → has (take (i + 1) ns) n ≡ (has (take i ns) n || eqb (get_or ns i 0) n)
+-- a slice's `contains` says whether it has a number
+pub any_has : (ns : List ℕ) (n : ℕ) → list_any (λ y. eqb y n) ns ≡ has ns n
 unfolding has
-has_take_more ns i n l = rw (take_more ns i 0 l, has_app (take i ns) (get_or ns i 0 ∷ []) n) (go (has (take i ns) n) (eqb (get_or ns i 0) n))
-  where
-    go : (a b : Bool) → (a || (b || false)) ≡ (a || b)
-    go true b = refl
-    go false true = refl
-    go false false = refl
+any_has [] n = refl
+any_has (m ∷ ns) n = ap (λ t. eqb m n || t) (any_has ns n)
 
--- what stands among the first of a list
-pub has_in_take : (ns : List ℕ) (m i : ℕ) → i < m → m ≤ length ns → has (take m ns) (get_or ns i 0) ≡ true
-has_in_take ns m i l s =
-    let p : i < length (take m ns) = simp length-take (omega arith) in
-    rw get_or-take at (has_at (take m ns) i p)
+has_any : (ns : List ℕ) (n : ℕ) → list_any (eqb n) ns ≡ has ns n
+unfolding has
+has_any [] n = refl
+has_any (m ∷ ns) n = rw (eqb_sym n m, has_any ns n) refl
 
-pub noted_none : Noted [] (record { gaps = replicate 64 false; numbers = replicate 9 0; many = 0 })
-unfolding has gaps_in numbers_in
-noted_none = record {
+pub noted_none : (v : ArrayVec ℕ) → v.items ≡ [] → Noted [] (record { gaps = replicate 64 false; numbers = v })
+unfolding has gaps_in numbers_in Within IsDistinct
+noted_none v e = record {
   long = length-replicate 64 false;
-  room = length-replicate {A = ℕ} 9 0;
   gaps = λ k. elim (cases_lt k 64) [
     | inl l ↦ get_or-replicate 64 k false false l
     | inr l ↦ let h : length (replicate 64 false) ≤ k = rw (length-replicate 64 false) l in get_or_past (replicate 64 false) k false h
   ];
-  apart = λ i j l m. absurd (omega arith);
-  only = λ i l. absurd (omega arith);
-  low = λ i l. absurd (omega arith);
-  all = λ l n h. absurd (both_ways false refl h);
+  apart = rw e tt;
+  only = λ n h. rw e at h;
+  low = λ n h. absurd (has_none n (rw e at h));
+  all = λ l n h. absurd (has_none n h);
 }
 
-module _ (gs : List Bool) (ns : List ℕ) (m : ℕ) (cs : List Cell) (s : Noted cs (record { gaps = gs; numbers = ns; many = m })) where
-  pub noted_gap : (k : ℕ) → k < 64 → Noted (gap k ∷ cs) (record { gaps = set gs k true; numbers = ns; many = m })
-  unfolding gaps_in numbers_in
-  noted_gap k l = record {
-    long = simp length-set s.long;
-    room = s.room;
-    gaps = λ j. elim (cases_eq j k) [
-      | inl e ↦ rw e (here ∙ sym (has_head k (gaps_in cs)))
-      | inr ne ↦ let n : j ≢ k = ne in get_or-set_other gs k j true false n ∙ (s.gaps j ∙ sym (has_cons k (gaps_in cs) j ∙ ap (λ b. b || has (gaps_in cs) j) (ne_eqb k j (λ e. ne (sym e)))))
-    ];
-    apart = s.apart;
-    only = s.only;
-    low = s.low;
-    all = s.all;
-  }
-    where
-      here : get_or (set gs k true) k false ≡ true
-      here = let p : k < length gs = rw s.long l in get_or-set_same gs k true false p
+-- one more gap
+pub noted_gap : (s : Notes) (cs : List Cell) (k : ℕ) → k < 64 → Noted cs s → Noted (gap k ∷ cs) (record { gaps = set s.gaps k true; numbers = s.numbers })
+unfolding gaps_in numbers_in
+noted_gap s cs k l h = record {
+  long = simp length-set h.long;
+  gaps = λ j. elim (cases_eq j k) [
+    | inl e ↦ rw e (here ∙ sym (has_head k (gaps_in cs)))
+    | inr ne ↦ let n : j ≢ k = ne in get_or-set_other s.gaps k j true false n ∙ (h.gaps j ∙ sym (has_cons k (gaps_in cs) j ∙ ap (λ b. b || has (gaps_in cs) j) (ne_eqb k j (λ e. ne (sym e)))))
+  ];
+  apart = h.apart;
+  only = h.only;
+  low = h.low;
+  all = h.all;
+}
+  where
+    here : get_or (set s.gaps k true) k false ≡ true
+    here = let p : k < length s.gaps = rw h.long l in get_or-set_same s.gaps k true false p
 
-  pub noted_number : (x : ℕ) → x < 2 ^ 64 → m < 9 → has (take m ns) x ≡ false → Noted (known x ∷ cs) (record { gaps = gs; numbers = set ns m x; many = m + 1 })
-  unfolding gaps_in numbers_in
-  noted_number x small l new = record {
-    long = s.long;
-    room = simp length-set s.room;
-    gaps = s.gaps;
-    apart = λ i j p q e. elim (cases_lt j m) [
-      | inl u ↦ s.apart i j p u (sym (other i (omega arith)) ∙ (e ∙ other j u))
-      | inr u ↦ let w : j ≡ m = omega arith in
-          has_apart (take m ns) (get_or ns i 0) x (has_in_take ns m i (omega arith) (omega (arith, s.room))) new (sym (other i (omega arith)) ∙ (e ∙ (ap (λ t. get_or (set ns m x) t 0) w ∙ same)))
-    ];
-    only = λ i p. elim (cases_lt i m) [
-      | inl u ↦ has_tail x (numbers_in cs) (get_or (set ns m x) i 0) (ap (has (numbers_in cs)) (other i u) ∙ s.only i u)
-      | inr u ↦ let w : i ≡ m = omega arith in ap (λ t. has (x ∷ numbers_in cs) (get_or (set ns m x) t 0)) w ∙ (ap (has (x ∷ numbers_in cs)) same ∙ has_head x (numbers_in cs))
-    ];
-    low = λ i p. elim (cases_lt i m) [
-      | inl u ↦ omega (arith, other i u, s.low i u)
-      | inr u ↦ let w : i ≡ m = omega arith in omega (arith, same, ap (λ t. get_or (set ns m x) t 0) w)
-    ];
-    all = λ p n h. let b : m < length ns = omega (arith, s.room) in rw (take_more_set ns m x b) (⊎_elim
-        (λ e. has_right (take m ns) (x ∷ []) n (ap (has (x ∷ [])) (sym (eqb-true x n e)) ∙ has_head x []))
-        (λ o. has_left (take m ns) (x ∷ []) n (s.all l n o))
-        (or_cases (eqb x n) (has (numbers_in cs) n) (sym (has_cons x (numbers_in cs) n) ∙ h)));
-  }
-    where
-      other : (i : ℕ) → i < m → get_or (set ns m x) i 0 ≡ get_or ns i 0
-      other i u = let n : i ≢ m = omega arith in get_or-set_other ns m i x 0 n
+pushed : (ns : List ℕ) (n k : ℕ) → has (ns ++ n ∷ []) k ≡ true → (has ns k ≡ true) ⊎ (n ≡ k)
+pushed ns n k h =
+    ⊎_elim (λ x. inl x) (λ x. ⊎_elim (λ y. inr (eqb-true n k y)) (λ y. absurd (has_none k y)) (or_cases (eqb n k) (has [] k) (sym (has_cons n [] k) ∙ x)))
+    (or_cases (has ns k) (has (n ∷ []) k) (sym (has_app ns (n ∷ []) k) ∙ h))
 
-      same : get_or (set ns m x) m 0 ≡ x
-      same = let p : m < length ns = omega (arith, s.room) in get_or-set_same ns m x 0 p
+-- one more number
+pub noted_number : (s : Notes) (v : ArrayVec ℕ) (cs : List Cell) (n : ℕ) → n < 2 ^ 64 → has s.numbers.items n ≡ false → v.items ≡ s.numbers.items ++ n ∷ [] →
+    length s.numbers.items < 9 → Noted cs s → Noted (known n ∷ cs) (record { gaps = s.gaps; numbers = v })
+unfolding gaps_in numbers_in Within
+noted_number s v cs n small new e l h = record {
+  long = h.long;
+  gaps = h.gaps;
+  apart = rw e (IsDistinct-push nat_eq_equiv s.numbers.items n h.apart (has_any s.numbers.items n ∙ new));
+  only = λ k o. ⊎_elim
+      (λ x. has_tail n (numbers_in cs) k (h.only k x))
+      (λ x. rw x (has_head k (numbers_in cs)))
+      (pushed s.numbers.items n k (rw e at o));
+  low = λ k o. ⊎_elim (h.low k) (λ x. omega arith) (pushed s.numbers.items n k (rw e at o));
+  all = λ p k o. rw e (⊎_elim
+      (λ x. has_right s.numbers.items (n ∷ []) k (rw (eqb-true n k x) (has_head k [])))
+      (λ x. has_left s.numbers.items (n ∷ []) k (h.all l k x))
+      (or_cases (eqb n k) (has (numbers_in cs) k) (sym (has_cons n (numbers_in cs) k) ∙ o)));
+}
 
-  -- a number that stands already, or finds no place
-  pub noted_again : (x : ℕ) → (m < 9 → has (take m ns) x ≡ true) → Noted (known x ∷ cs) (record { gaps = gs; numbers = ns; many = m })
-  unfolding gaps_in numbers_in
-  noted_again x old = record {
-    long = s.long;
-    room = s.room;
-    gaps = s.gaps;
-    apart = s.apart;
-    only = λ i p. has_tail x (numbers_in cs) (get_or ns i 0) (s.only i p);
-    low = s.low;
-    all = λ p n h. ⊎_elim
-        (λ e. ap (has (take m ns)) (sym (eqb-true x n e)) ∙ old p)
-        (s.all p n)
-        (or_cases (eqb x n) (has (numbers_in cs) n) (sym (has_cons x (numbers_in cs) n) ∙ h));
-  }
+-- a number that stands already, or finds no place
+pub noted_again : (s : Notes) (cs : List Cell) (n : ℕ) → (length s.numbers.items < 9 → has s.numbers.items n ≡ true) → Noted cs s → Noted (known n ∷ cs) s
+unfolding gaps_in numbers_in Within
+noted_again s cs n old h = record {
+  long = h.long;
+  gaps = h.gaps;
+  apart = h.apart;
+  only = λ k o. has_tail n (numbers_in cs) k (h.only k o);
+  low = h.low;
+  all = λ p k o. ⊎_elim
+      (λ e. ap (has s.numbers.items) (sym (eqb-true n k e)) ∙ old p)
+      (h.all p k)
+      (or_cases (eqb n k) (has (numbers_in cs) k) (sym (has_cons n (numbers_in cs) k) ∙ o));
+}
+
+-- other cells that name the same
+pub noted_like : (cs ds : List Cell) (s : Notes) → ((k : ℕ) → has (gaps_in cs) k ≡ has (gaps_in ds) k) → ((n : ℕ) → has (numbers_in cs) n ≡ has (numbers_in ds) n) →
+    Noted cs s → Noted ds s
+unfolding Within
+noted_like cs ds s g n h = record {
+  long = h.long;
+  gaps = λ k. h.gaps k ∙ g k;
+  apart = h.apart;
+  only = λ k o. sym (n k) ∙ h.only k o;
+  low = h.low;
+  all = λ p k o. h.all p k (n k ∙ o);
+}
+
+-- lists joined in another order have the same
+pub has_turned : (xs ys zs : List ℕ) (k : ℕ) → has (ys ++ (xs ++ zs)) k ≡ has ((xs ++ ys) ++ zs) k
+has_turned xs ys zs k = rw (has_app ys (xs ++ zs) k, has_app xs zs k, has_app (xs ++ ys) zs k, has_app xs ys k) (turn (has xs k) (has ys k) (has zs k))
+  where
+    turn : (a b c : Bool) → (b || (a || c)) ≡ ((a || b) || c)
+    turn true true c = refl
+    turn true false c = refl
+    turn false true c = refl
+    turn false false c = refl
+
+-- some cells after others
+module _ (cs ds es : List Cell) where
+  turned_gaps : (k : ℕ) → has (gaps_in (ds ++ (cs ++ es))) k ≡ has (gaps_in ((cs ++ ds) ++ es)) k
+  turned_gaps k = rw (gaps_app ds (cs ++ es), gaps_app cs es, gaps_app (cs ++ ds) es, gaps_app cs ds) (has_turned (gaps_in cs) (gaps_in ds) (gaps_in es) k)
+
+  turned_numbers : (k : ℕ) → has (numbers_in (ds ++ (cs ++ es))) k ≡ has (numbers_in ((cs ++ ds) ++ es)) k
+  turned_numbers k = rw (numbers_app ds (cs ++ es), numbers_app cs es, numbers_app (cs ++ ds) es, numbers_app cs ds) (has_turned (numbers_in cs) (numbers_in ds) (numbers_in es) k)
+
+pub notes_then : (cs ds : List Cell) (s t u : Notes) → NotesMore cs s t → NotesMore ds t u → NotesMore (cs ++ ds) s u
+notes_then cs ds s t u f g es h = noted_like (ds ++ (cs ++ es)) ((cs ++ ds) ++ es) u (turned_gaps cs ds es) (turned_numbers cs ds es) (g (cs ++ es) (f es h))
 
 -- the cells that a node compares itself
 pub own_equal : (a b : code.Cell) → Named (Equal a b) → own_cells (Equal a b) ≡ (cell_of a ∷ (cell_of b ∷ []))
@@ -122,11 +147,3 @@ own_other (Equal a b) h = absurd (h a b refl)
 own_other (Not a) h = refl
 own_other (Both a b) h = refl
 own_other (Either a b) h = refl
-
-pub marked_more : (nodes : List ℕ) (ms : List Bool) (i : ℕ) → marked ms i ≡ true → marked_cells nodes ms (i + 1) ≡ own_cells (decoded nodes i) ++ marked_cells nodes ms i
-unfolding marked_cells
-marked_more nodes ms i h = let e : i + 1 ≡ suc i = omega arith in rw (e, h) refl
-
-pub marked_pass : (nodes : List ℕ) (ms : List Bool) (i : ℕ) → marked ms i ≡ false → marked_cells nodes ms (i + 1) ≡ marked_cells nodes ms i
-unfolding marked_cells
-marked_pass nodes ms i h = let e : i + 1 ≡ suc i = omega arith in rw (e, h) refl

@@ -1,6 +1,6 @@
 -- Marking what conditions reach: what is marked, and the cells that stand there.
-use Rattle.std.proofs.Common.{◌≡◌, ℕ, zero, suc, ◌+◌, ◌<◌, ◌≤◌, Bool, true, false, cond as if, ◌&&◌, ◌||◌, eqb, ltb, ◌⊎◌, List, [], ◌∷◌, ◌++◌, sym, refl, ap, ◌∙◌, subst, inl, inr, ⊎_elim, arith}
-use Rattle.std.proofs.lemmas.Bool.{both_ways, cases_lt, cases_eq, ltb-true, lt-ltb, le-ltb, eqb-true, and_parts, and_from, or_cases, or_left, or_right}
+use Rattle.std.proofs.Common.{◌≡◌, ℕ, zero, suc, ◌+◌, ◌<◌, ◌≤◌, Bool, true, false, ◌&&◌, ◌||◌, eqb, ltb, ◌⊎◌, List, [], ◌∷◌, sym, refl, ap, ◌∙◌, subst, inl, inr, ⊎_elim, arith}
+use Rattle.std.proofs.lemmas.Bool.{both_ways, cases_lt, cases_eq, cases_Bool, ltb-true, lt-ltb, le-ltb, eqb-true, and_parts, and_from, or_cases, or_left, or_right}
 use Rattle.condition.specs.Cond.{Cond, cells_of, numbers_in, gaps_in, has}
 use Rattle.condition.specs.Store.{count, earlier, cond_at}
 use Rattle.condition.specs.Shapes.{node_of}
@@ -11,6 +11,7 @@ use Rattle.condition.proofs.Lists.{has_none, has_cons, has_head, has_tail}
 use Rattle.condition.proofs.Decoding.{at_decoded}
 use Rattle.decide.specs.Reaching.{places_of, EachPlace, own_cells, marked, Closed, marked_cells, Covers, AllCovered}
 use Rattle.decide.proofs.Coverage.{covers_none, covers_both, covers_left, covers_right, covers_self, covers_before, covers_behind}
+use Rattle.decide.proofs.Passing.{marked_none, marked_more, marked_pass}
 
 pub named_none : (m t : Bool) (j : ℕ) → m ≡ (m || (t && has [] j))
 unfolding has
@@ -91,19 +92,6 @@ pub record Closing (nodes : List ℕ) (n i : ℕ) (ms₀ ms : List Bool) : Type 
   pub kept : (k : ℕ) → marked ms₀ k ≡ true → marked ms k ≡ true
   pub reached : (ns gs : List ℕ) → AllCovered ns gs nodes n ms₀ → AllCovered ns gs nodes n ms
 
-pub closing_none : (nodes : List ℕ) (n : ℕ) (ms : List Bool) → Closing nodes n n ms ms
-closing_none nodes n ms = record { closed = λ k j p q. absurd (omega arith); kept = λ k h. h; reached = λ ns gs a. a }
-
-pub closing_pass : (nodes : List ℕ) (n i : ℕ) (ms₀ ms : List Bool) → marked ms i ≡ false → Closing nodes n (i + 1) ms₀ ms → Closing nodes n i ms₀ ms
-closing_pass nodes n i ms₀ ms e c = record {
-  closed = λ k j p q l h. elim (cases_lt i k) [
-    | inl u ↦ c.closed k j (omega arith) q l h
-    | inr u ↦ let w : k ≡ i = omega arith in absurd (both_ways (marked ms i) e (ap (marked ms) (sym w) ∙ h))
-  ];
-  kept = c.kept;
-  reached = c.reached;
-}
-
 pub closing_more : (nodes : List ℕ) (n i : ℕ) (ms₀ ms rs : List Bool) → i < n → n ≤ count nodes → marked ms i ≡ true →
     ((j : ℕ) → marked rs j ≡ (marked ms j || (ltb j i && has (places_of (decoded nodes i)) j))) →
     Closing nodes n (i + 1) ms₀ ms → Closing nodes n i ms₀ rs
@@ -158,30 +146,29 @@ module _ (ns gs : List ℕ) where
 
   -- the cells that marked nodes compare are covered where the nodes are
   pub marked_covered : (nodes : List ℕ) (n : ℕ) (ms : List Bool) → n ≤ count nodes → AllCovered ns gs nodes n ms → Covers ns gs (marked_cells nodes ms n)
-  unfolding marked_cells
-  marked_covered nodes zero ms s a = covers_none ns gs
-  marked_covered nodes (suc n) ms s a = go (marked_covered nodes n ms (omega arith) (λ i l. a i (omega arith))) (marked ms n) refl
-    where
-      go : Covers ns gs (marked_cells nodes ms n) → (b : Bool) → marked ms n ≡ b →
-          Covers ns gs (if b (own_cells (decoded nodes n) ++ marked_cells nodes ms n) (marked_cells nodes ms n))
-      go ih true e = covers_both ns gs (own_cells (decoded nodes n)) (marked_cells nodes ms n) (own_covered (decoded nodes n) n (cond_at nodes) (rw (at_decoded nodes n (omega arith)) at (a n (omega arith) e))) ih
-      go ih false e = ih
+  marked_covered nodes zero ms s a = rw (marked_none nodes ms) (covers_none ns gs)
+  marked_covered nodes (suc n) ms s a =
+      let e : suc n ≡ n + 1 = omega arith in
+      let ih = marked_covered nodes n ms (omega arith) (λ i l. a i (omega arith)) in
+      rw e (⊎_elim
+      (λ h. rw (marked_more nodes ms n h) (covers_both ns gs (marked_cells nodes ms n) (own_cells (decoded nodes n)) ih (own_covered (decoded nodes n) n (cond_at nodes) (rw (at_decoded nodes n (omega arith)) at (a n (omega arith) h)))))
+      (λ h. rw (marked_pass nodes ms n h) ih)
+      (cases_Bool (marked ms n)))
 
 -- a marked node's own cells are among those of all
 own_marked : (nodes : List ℕ) (n i : ℕ) (ms : List Bool) → i < n → marked ms i ≡ true →
     Covers (numbers_in (marked_cells nodes ms n)) (gaps_in (marked_cells nodes ms n)) (own_cells (decoded nodes i))
-unfolding marked_cells
 own_marked nodes zero i ms l h = absurd (omega arith)
-own_marked nodes (suc n) i ms l h = go (own_marked nodes n i ms) (cases_eq i n) (marked ms n) refl
-  where
-    go : (i < n → marked ms i ≡ true → Covers (numbers_in (marked_cells nodes ms n)) (gaps_in (marked_cells nodes ms n)) (own_cells (decoded nodes i))) →
-        (i ≡ n) ⊎ (i ≡ n → ⊥) → (b : Bool) → marked ms n ≡ b →
-        Covers (numbers_in (if b (own_cells (decoded nodes n) ++ marked_cells nodes ms n) (marked_cells nodes ms n)))
-        (gaps_in (if b (own_cells (decoded nodes n) ++ marked_cells nodes ms n) (marked_cells nodes ms n))) (own_cells (decoded nodes i))
-    go ih (inl e) true f = rw e (covers_before (own_cells (decoded nodes n)) (marked_cells nodes ms n) (own_cells (decoded nodes n)) (covers_self (own_cells (decoded nodes n))))
-    go ih (inl e) false f = absurd (both_ways (marked ms n) f (ap (marked ms) (sym e) ∙ h))
-    go ih (inr ne) true f = covers_behind (own_cells (decoded nodes n)) (marked_cells nodes ms n) (own_cells (decoded nodes i)) (ih (omega arith) h)
-    go ih (inr ne) false f = ih (omega arith) h
+own_marked nodes (suc n) i ms l h =
+    let e : suc n ≡ n + 1 = omega arith in
+    let front = marked_cells nodes ms n in let last = own_cells (decoded nodes n) in
+    rw e (elim (cases_eq i n) [
+      | inl x ↦ rw (x, marked_more nodes ms n (ap (marked ms) (sym x) ∙ h)) (covers_behind front last last (covers_self last))
+      | inr ne ↦ ⊎_elim
+          (λ y. rw (marked_more nodes ms n y) (covers_before front last (own_cells (decoded nodes i)) (own_marked nodes n i ms (omega arith) h)))
+          (λ y. rw (marked_pass nodes ms n y) (own_marked nodes n i ms (omega arith) h))
+          (cases_Bool (marked ms n))
+    ])
 
 -- so all that a marked node names is, where what it reaches is marked
 pub all_marked : (nodes : List ℕ) (n : ℕ) (ms : List Bool) → n ≤ count nodes → Closed nodes n ms →

@@ -1,20 +1,25 @@
 -- What was marked and noted is what decides the row.
-use Rattle.std.proofs.Common.{◌≡◌, ℕ, ◌<◌, ◌≤◌, Bool, true, false, cond as if, eqb, ◌≢◌, ◌⊎◌, List, [], ◌∷◌, ◌++◌, map, length, get_or, set, sym, refl, ap, ◌∙◌, inl, inr, ⊎_elim, arith}
-use Rattle.std.proofs.lemmas.List.{get_or-set_same, get_or-set_other}
+use Rattle.std.proofs.Common.{◌≡◌, ℕ, ◌<◌, ◌≤◌, Bool, true, false, cond as if, eqb, ◌≢◌, ◌⊎◌, List, [], ◌∷◌, ◌++◌, map, length, take, drop, set, replicate, sym, refl, ap, ◌∙◌, inl, inr, ⊎_elim, append-nil, take_all, length-append, length-take-le, arith}
+use Rattle.std.proofs.lemmas.List.{get_or-set_same, get_or-set_other, get_or_append_left, get_or-replicate}
+use lib.ListN.{length-replicate}
 use Rattle.std.proofs.lemmas.Bool.{both_ways, cases_eq, eqb-true, and_parts, or_cases}
 use Rattle.condition.specs.Cond.{Cell, known, gap, cells_of, numbers_in, gaps_in, has, Within}
 use Rattle.condition.specs.Store.{count, cond_at}
 use Rattle.condition.proofs.Lists.{has_none, has_cons, has_head, has_tail, has_app, has_left, has_right}
-use Rattle.condition.proofs.Named.{numbers_app}
+use Rattle.condition.proofs.Named.{numbers_app, gaps_app}
 use Rattle.list.specs.Lists.{Line, Row}
+use Rattle.list.proofs.Reading.{length_lines}
 use Rattle.decide.specs.Deciding.{agrees, deciding, cells_in_lines, conds_in_lines}
 use Rattle.decide.specs.Reaching.{marked, Closed, marked_cells, Covers, AllCovered}
-use Rattle.decide.specs.Noting.{Noted}
-use Rattle.decide.specs.Matching.{Matched}
+use Rattle.decide.specs.Noting.{Noted, NotesMore}
+use Rattle.decide.specs.Sought.{known_of, lines_of, deciding_of}
+use Rattle.decide.specs.Matching.{node_at, deciding_first, Matched}
 use Rattle.decide.specs.Standing.{named_cells}
-use Rattle.decide.specs.Surveying.{numbers_met, gaps_met, Surveyed}
+use Rattle.decide.specs.Surveying.{numbers_for, gaps_for, cells_for, Surveyed}
+use Rattle.decide.specs.declared.sought.Sought.{Sought}
 use Rattle.decide.specs.declared.noting.Notes.{Notes}
 use Rattle.decide.proofs.Coverage.{covers_none, covers_both, covers_left, covers_right, covers_self, covers_more, covers_before, covers_behind}
+use Rattle.decide.proofs.Noted.{noted_like}
 use Rattle.decide.proofs.Reached.{marked_covered, all_marked}
 
 bool_same : (a b : Bool) → (a ≡ true → b ≡ true) → (b ≡ true → a ≡ true) → a ≡ b
@@ -63,29 +68,68 @@ pub row_covered : (ns gs : List ℕ) (row : Row) → Within row ns → Covers ns
 unfolding Within
 row_covered ns gs row h = record { numbers = λ n o. h n (rw (row_numbers row) at o); gaps = λ k o. absurd (has_none k (rw (row_gaps row) at o)) }
 
-module _ (nodes : List ℕ) (c at : ℕ) (row : Row) (ls : List ℕ → List Line) (blank ms₁ ms : List Bool) (s₀ s₁ s : Notes)
-    (all_of : c ≤ count nodes) (stands : at < c) (long : c ≤ length blank) (clean : (i : ℕ) → i < c → marked blank i ≡ false)
-    (first : Noted (map known row ++ []) s₀) (m : Matched c row ls (set blank at true) ms₁ s₀ s₁)
-    (closed : Closed nodes c ms) (kept : (i : ℕ) → marked ms₁ i ≡ true → marked ms i ≡ true)
-    (reached : (ns gs : List ℕ) → AllCovered ns gs nodes c ms₁ → AllCovered ns gs nodes c ms)
-    (few : s.many ≤ 9) (noted : (cs : List Cell) → Noted cs s₁ → Noted (marked_cells nodes ms c ++ cs) s) where
+-- the first n marks, taken away
+module _ (n : ℕ) (front old : List Bool) (l : n ≤ length old) (e : front ≡ replicate (length (take n old)) false) where
+  front_long : length front ≡ n
+  front_long = rw (e, length-replicate (length (take n old)) false) (length-take-le n old l)
+
+  pub cleared_long : n ≤ length (front ++ drop n old)
+  cleared_long = omega (arith, length-append front (drop n old), front_long)
+
+  pub cleared : (i : ℕ) → i < n → marked (front ++ drop n old) i ≡ false
+  cleared i b =
+      let k : i < length front = omega (arith, front_long) in
+      get_or_append_left front (drop n old) false i k ∙ rw e (get_or-replicate (length (take n old)) i false false (omega (arith, length-take-le n old l)))
+
+-- the cells that count name the numbers and the gaps that count
+pub numbers_met_are : (q : Sought) → numbers_in (cells_for q) ≡ numbers_for q
+numbers_met_are q = numbers_app (named_cells (known_of q) (deciding_of q)) (map known q.row.now) ∙ ap (λ t. gathered ++ t) (row_numbers q.row.now)
+  where
+    gathered : List ℕ
+    gathered = numbers_in (named_cells (known_of q) (deciding_of q))
+
+pub gaps_met_are : (q : Sought) → gaps_in (cells_for q) ≡ gaps_for q
+gaps_met_are q = gaps_app (named_cells (known_of q) (deciding_of q)) (map known q.row.now) ∙ (ap (λ t. gaps_for q ++ t) (row_gaps q.row.now) ∙ append-nil (gaps_for q))
+
+module _ (q : Sought) (blank ms₁ ms : List Bool) (s₀ s₁ s : Notes)
+    (long : count q.nodes.now ≤ length blank) (clean : (i : ℕ) → i < count q.nodes.now → marked blank i ≡ false)
+    (first : Noted (map known q.row.now ++ []) s₀) (m : Matched q q.lines (set blank q.known true) ms₁ s₀ s₁)
+    (closed : Closed q.nodes.now (count q.nodes.now) ms) (kept : (i : ℕ) → marked ms₁ i ≡ true → marked ms i ≡ true)
+    (reached : (ns gs : List ℕ) → AllCovered ns gs q.nodes.now (count q.nodes.now) ms₁ → AllCovered ns gs q.nodes.now (count q.nodes.now) ms)
+    (noted : NotesMore (marked_cells q.nodes.now ms (count q.nodes.now)) s₁ s) where
+  abbrev nodes : List ℕ
+  nodes = q.nodes.now
+
+  abbrev c : ℕ
+  c = count nodes
+
+  abbrev at : ℕ
+  at = q.known
+
+  abbrev row : Row
+  row = q.row.now
+
   abbrev ds : List Line
-  ds = deciding (ls nodes) row
+  ds = deciding_of q
 
   abbrev met : List Cell
   met = named_cells (cond_at nodes at) ds
 
   abbrev ns : List ℕ
-  ns = numbers_met (cond_at nodes at) ds row
+  ns = numbers_for q
 
   abbrev gs : List ℕ
-  gs = gaps_met (cond_at nodes at) ds
+  gs = gaps_for q
 
   abbrev found : List Cell
   found = marked_cells nodes ms c
 
   abbrev listed : List Cell
   listed = found ++ (cells_in_lines ds ++ (map known row ++ []))
+
+  -- of all lines those that decide the row
+  all_lines : deciding_first q q.lines ≡ ds
+  all_lines = ap (λ t. deciding t row) (take_all q.lines (lines_of q) (rw (length_lines nodes q.lines (length row) q.answer.now) (omega arith)))
 
   -- what is met covers what is met
   met_covers : Covers ns gs met
@@ -102,10 +146,10 @@ module _ (nodes : List ℕ) (c at : ℕ) (row : Row) (ls : List ℕ → List Lin
   ]
 
   all_covered : AllCovered ns gs nodes c ms
-  all_covered = reached ns gs (m.only nodes ns gs root_covered (covers_left ns gs (conds_in_lines ds) (cells_in_lines ds) rest_covers))
+  all_covered = reached ns gs (m.only ns gs root_covered (rw all_lines (covers_left ns gs (conds_in_lines ds) (cells_in_lines ds) rest_covers)))
 
   found_covered : Covers ns gs found
-  found_covered = marked_covered ns gs nodes c ms all_of all_covered
+  found_covered = marked_covered ns gs nodes c ms (omega arith) all_covered
 
   listed_covered : Covers ns gs listed
   unfolding Within
@@ -115,17 +159,17 @@ module _ (nodes : List ℕ) (c at : ℕ) (row : Row) (ls : List ℕ → List Lin
       (covers_both ns gs (map known row) [] (row_covered ns gs row (λ n h. has_right (numbers_in met) row n h)) (covers_none ns gs)))
 
   pub known_marked : marked ms at ≡ true
-  known_marked = kept at (m.kept at (let b : at < length blank = omega arith in get_or-set_same blank at true false b))
+  known_marked = kept at (m.kept at (let b : at < length blank = omega (arith, q.stands) in get_or-set_same blank at true false b))
 
   -- the other way round
   found_all : AllCovered (numbers_in found) (gaps_in found) nodes c ms
-  found_all = all_marked nodes c ms all_of closed
+  found_all = all_marked nodes c ms (omega arith) closed
 
   found_what : Covers (numbers_in found) (gaps_in found) (cells_of (cond_at nodes at))
-  found_what = found_all at stands known_marked
+  found_what = found_all at q.stands known_marked
 
   found_conds : Covers (numbers_in found) (gaps_in found) (conds_in_lines ds)
-  found_conds = m.all nodes (numbers_in found) (gaps_in found) (λ i l h. found_all i l (kept i h))
+  found_conds = rw all_lines at (m.all (numbers_in found) (gaps_in found) (λ i l h. found_all i l (kept i h)))
 
   met_listed : Covers (numbers_in listed) (gaps_in listed) met
   met_listed =
@@ -159,25 +203,22 @@ module _ (nodes : List ℕ) (c at : ℕ) (row : Row) (ls : List ℕ → List Lin
       (λ h. ⊎_elim (λ o. in_met o) (has_right (numbers_in found) row n) (either_has (numbers_in met) row n h))
     where
       in_rest : has (numbers_in (conds_in_lines ds ++ cells_in_lines ds)) n ≡ true → has (numbers_in found ++ row) n ≡ true
-      in_rest o = ⊎_elim (λ x. has_left (numbers_in found) row n (found_conds.numbers n x)) (λ x. has_right (numbers_in found) row n (lines_numbers (ls nodes) row n x))
+      in_rest o = ⊎_elim (λ x. has_left (numbers_in found) row n (found_conds.numbers n x)) (λ x. has_right (numbers_in found) row n (lines_numbers (lines_of q) row n x))
           (either_has (numbers_in (conds_in_lines ds)) (numbers_in (cells_in_lines ds)) n (rw (numbers_app (conds_in_lines ds) (cells_in_lines ds)) at o))
 
       in_met : has (numbers_in met) n ≡ true → has (numbers_in found ++ row) n ≡ true
       in_met o = ⊎_elim (λ x. has_left (numbers_in found) row n (found_what.numbers n x)) in_rest
           (either_has (numbers_in (cells_of (cond_at nodes at))) (numbers_in (conds_in_lines ds ++ cells_in_lines ds)) n (rw (numbers_app (cells_of (cond_at nodes at)) (conds_in_lines ds ++ cells_in_lines ds)) at o))
 
-  pub surveyed : Surveyed nodes (cond_at nodes at) ds row c ms s
-  surveyed =
-      let u : Noted listed s = noted (cells_in_lines ds ++ (map known row ++ [])) (m.noted nodes (map known row ++ []) first) in record {
-        closed = closed;
-        covered = all_covered;
-        few = few;
-        long = u.long;
-        room = u.room;
-        gaps = λ k. u.gaps k ∙ listed_gaps k;
-        apart = u.apart;
-        only = λ i l. sym (listed_numbers (get_or s.numbers i 0)) ∙ u.only i l;
-        low = u.low;
-        all = λ l n h. u.all l n (listed_numbers n ∙ h);
-        numbers = found_numbers;
-      }
+  pub surveyed : Surveyed q ms s
+  surveyed = record {
+    known = known_marked;
+    lines = λ k l b y. kept (node_at (length row) q.answer.now k) (m.lines k l b y);
+    closed = closed;
+    covered = all_covered;
+    noted = noted_like listed (cells_for q) s
+        (λ k. listed_gaps k ∙ ap (λ t. has t k) (sym (gaps_met_are q)))
+        (λ n. listed_numbers n ∙ ap (λ t. has t n) (sym (numbers_met_are q)))
+        (noted (cells_in_lines ds ++ (map known row ++ [])) (rw all_lines at m.noted (map known row ++ []) first));
+    numbers = found_numbers;
+  }

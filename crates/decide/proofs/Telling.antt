@@ -1,40 +1,52 @@
 -- What is told of the gaps and numbers that decide a row.
-use Rattle.std.proofs.Common.{◌≡◌, ℕ, ◌+◌, ◌^◌, ◌<◌, ◌≤◌, Bool, List, ◌++◌, length, take, Some, None, refl, ap, ◌∙◌, arith, length-take}
+use Rattle.std.proofs.Common.{◌≡◌, ℕ, ◌+◌, ◌^◌, ◌<◌, ◌≤◌, List, Bool, ◌++◌, length, Some, None, sym, refl, ap, ◌∙◌, arith}
 use Rattle.std.proofs.lemmas.Bool.{le-leb, lt-leb}
-use Rattle.condition.specs.Cond.{Cond, numbers_in, has}
-use Rattle.list.specs.Lists.{Line, Row}
+use Rattle.condition.specs.Cond.{numbers_in, has, Within}
+use Rattle.condition.specs.Store.{count}
 use Rattle.decide.specs.Counting.{counted}
-use Rattle.decide.specs.Noting.{gap_noted}
+use Rattle.decide.specs.Noting.{gap_noted, gaps_noted, numbers_noted}
 use Rattle.decide.specs.Reaching.{marked_cells}
+use Rattle.decide.specs.Sought.{known_of, deciding_of}
 use Rattle.decide.specs.Standing.{gaps_named, numbers_named, nine_told}
-use Rattle.decide.specs.Surveying.{numbers_met, gaps_met, Surveyed}
+use Rattle.decide.specs.Surveying.{numbers_for, gaps_for, Surveyed}
 use Rattle.decide.specs.declared.noting.Notes.{Notes}
+use Rattle.decide.specs.declared.sought.Sought.{Sought}
 use Rattle.decide.proofs.Counted.{counted_same, counted_listed, counted_apart}
+use Rattle.decide.proofs.Passing.{length-passing_below}
+use Rattle.decide.proofs.Surveyed.{numbers_met_are, gaps_met_are}
 
-module _ (nodes : List ℕ) (what : Cond) (ls : List Line) (row : Row) (c : ℕ) (ms : List Bool) (s : Notes) (y : Surveyed nodes what ls row c ms s) where
-  gaps_are : counted 64 (gap_noted s) ≡ gaps_named what ls
-  gaps_are = counted_same 64 (gap_noted s) (has (gaps_met what ls)) (λ k l. y.gaps k)
+module _ (q : Sought) (ms : List Bool) (s : Notes) (y : Surveyed q ms s) where
+  abbrev gaps : ℕ
+  gaps = gaps_named (known_of q) (deciding_of q)
 
-  numbers_are : counted (2 ^ 64) (has (numbers_in (marked_cells nodes ms c) ++ row)) ≡ numbers_named what ls row
-  numbers_are = counted_same (2 ^ 64) (has (numbers_in (marked_cells nodes ms c) ++ row)) (has (numbers_met what ls row)) (λ n l. y.numbers n)
+  abbrev numbers : ℕ
+  numbers = numbers_named (known_of q) (deciding_of q) q.row.now
+
+  gaps_are : length (gaps_noted s) ≡ gaps
+  gaps_are = length-passing_below 64 (gap_noted s) ∙ counted_same 64 (gap_noted s) (has (gaps_for q)) (λ k l. y.noted.gaps k ∙ ap (λ t. has t k) (gaps_met_are q))
+
+  numbers_are : counted (2 ^ 64) (has (numbers_in (marked_cells q.nodes.now ms (count q.nodes.now)) ++ q.row.now)) ≡ numbers
+  numbers_are = counted_same (2 ^ 64) (has (numbers_in (marked_cells q.nodes.now ms (count q.nodes.now)) ++ q.row.now)) (has (numbers_for q)) (λ n l. y.numbers n)
 
   -- too many gaps
-  pub told_gaps : (g : ℕ) → g ≡ counted 64 (gap_noted s) → 6 < g → Some (9, g) ≡ nine_told what ls row
+  pub told_gaps : (g : ℕ) → g ≡ length (gaps_noted s) → 6 < g → Some (9, g) ≡ nine_told (known_of q) (deciding_of q) q.row.now
   told_gaps g e l =
-      let f : g ≡ gaps_named what ls = e ∙ gaps_are in
-      rw (lt-leb (gaps_named what ls) 6 (omega arith)) (ap (λ t. Some (9, t)) f)
+      let f : g ≡ gaps = e ∙ gaps_are in
+      rw (lt-leb gaps 6 (omega arith)) (ap (λ t. Some (9, t)) f)
 
   -- too many numbers
-  pub told_numbers : (g x : ℕ) → g ≡ counted 64 (gap_noted s) → g ≤ 6 → 8 < s.many → x ≡ counted (2 ^ 64) (has (numbers_in (marked_cells nodes ms c) ++ row)) →
-      Some (9, 64 + x) ≡ nine_told what ls row
+  pub told_numbers : (g x : ℕ) → g ≡ length (gaps_noted s) → g ≤ 6 → 8 < length (numbers_noted s) →
+      x ≡ counted (2 ^ 64) (has (numbers_in (marked_cells q.nodes.now ms (count q.nodes.now)) ++ q.row.now)) → Some (9, 64 + x) ≡ nine_told (known_of q) (deciding_of q) q.row.now
+  unfolding Within
   told_numbers g x e l m f =
-      let i : x ≡ numbers_named what ls row = f ∙ numbers_are in
-      let k : s.many ≤ numbers_named what ls row = counted_apart (2 ^ 64) (has (numbers_met what ls row)) s.numbers s.many y.apart y.low y.only in
-      rw (le-leb (gaps_named what ls) 6 (omega (arith, gaps_are)), lt-leb (numbers_named what ls row) 8 (omega arith)) (ap (λ t. Some (9, 64 + t)) i)
+      let i : x ≡ numbers = f ∙ numbers_are in
+      let k : length (numbers_noted s) ≤ numbers =
+      counted_apart (2 ^ 64) (has (numbers_for q)) (numbers_noted s) y.noted.apart y.noted.low (λ n o. ap (λ t. has t n) (sym (numbers_met_are q)) ∙ y.noted.only n o) in
+      rw (le-leb gaps 6 (omega (arith, gaps_are)), lt-leb numbers 8 (omega arith)) (ap (λ t. Some (9, 64 + t)) i)
 
   -- few enough of both
-  pub told_few : (g : ℕ) → g ≡ counted 64 (gap_noted s) → g ≤ 6 → s.many ≤ 8 → None ≡ nine_told what ls row
+  pub told_few : (g : ℕ) → g ≡ length (gaps_noted s) → g ≤ 6 → length (numbers_noted s) ≤ 8 → None ≡ nine_told (known_of q) (deciding_of q) q.row.now
+  unfolding Within
   told_few g e l m =
-      let b : length (take s.many s.numbers) ≤ 8 = simp length-take (omega arith) in
-      let k : numbers_named what ls row ≤ 8 = omega (arith, counted_listed (2 ^ 64) (has (numbers_met what ls row)) (take s.many s.numbers) (y.all (omega arith))) in
-      rw (le-leb (gaps_named what ls) 6 (omega (arith, gaps_are)), le-leb (numbers_named what ls row) 8 k) refl
+      let k : numbers ≤ 8 = omega (arith, counted_listed (2 ^ 64) (has (numbers_for q)) (numbers_noted s) (λ n o. y.noted.all (omega arith) n (ap (λ t. has t n) (numbers_met_are q) ∙ o))) in
+      rw (le-leb gaps 6 (omega (arith, gaps_are)), le-leb numbers 8 k) refl

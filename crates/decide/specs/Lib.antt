@@ -1,6 +1,8 @@
 pub mod Deciding
-pub mod Reaching
 pub mod Counting
+pub mod Reaching
+pub mod Marked
+pub mod Sought
 pub mod Noting
 pub mod Matching
 pub mod Standing

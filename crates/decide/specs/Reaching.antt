@@ -5,15 +5,18 @@
 --   own_cells n               the cells that a node compares itself
 --   marked ms i               whether node i is marked
 --   Closed nodes n ms         of the first n nodes, all that a marked one names before it is marked
+--   cells_among nodes is      the cells that the nodes at the places is compare
+--   marked_places ms n        the marked ones of the first n places
 --   marked_cells nodes ms n   the cells that the marked ones of the first n nodes compare
 --   Covers ns gs cs           the numbers in the cells cs are among ns, and the gaps among gs
-use Rattle.std.specs.Prelude.{◌≡◌, ℕ, zero, suc, ◌<◌, Bool, true, false, cond as if, List, [], ◌∷◌, ◌++◌, slice_index_or}
+use Rattle.std.specs.Prelude.{◌≡◌, ℕ, ◌<◌, Bool, true, false, List, [], ◌∷◌, flat_map, slice_index_or}
 use Rattle.condition.specs.Cond.{Cell, never, cells_of, numbers_in, gaps_in, Within}
 use Rattle.condition.specs.Store.{cond_at}
 use Rattle.condition.specs.Shapes.{node_of}
 use Rattle.condition.specs.Nodes.{decoded}
 use Rattle.condition.specs.declared.Node.{Node}
 use Rattle.condition.specs.declared.Node.TheVariants.{Always, Never, Equal, Not, Both, Either}
+use Rattle.decide.specs.Counting.{passing_below}
 
 abbrev pub places_of : Node → List ℕ
 places_of Always = []
@@ -40,9 +43,15 @@ marked ms i = slice_index_or ms i false
 abbrev pub Closed : List ℕ → ℕ → List Bool → Type 0
 Closed nodes n ms = (i : ℕ) → i < n → marked ms i ≡ true → EachPlace (decoded nodes i) (λ j. j < i → marked ms j ≡ true)
 
-unfoldable pub marked_cells : List ℕ → List Bool → ℕ → List Cell
-marked_cells nodes ms zero = []
-marked_cells nodes ms (suc i) = if (marked ms i) (own_cells (decoded nodes i) ++ marked_cells nodes ms i) (marked_cells nodes ms i)
+abbrev pub cells_among : List ℕ → List ℕ → List Cell
+cells_among nodes places = flat_map (λ i. own_cells (decoded nodes i)) places
+
+-- the marked ones of the first n places, in rising order
+abbrev pub marked_places : List Bool → ℕ → List ℕ
+marked_places ms n = passing_below n (marked ms)
+
+abbrev pub marked_cells : List ℕ → List Bool → ℕ → List Cell
+marked_cells nodes ms n = cells_among nodes (marked_places ms n)
 
 pub record Covers (ns gs : List ℕ) (cs : List Cell) : Type 0 where
   pub numbers : Within (numbers_in cs) ns

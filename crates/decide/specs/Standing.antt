@@ -5,12 +5,17 @@
 --   nine_told what ls row             number 9: more than six gaps, or else more than eight numbers
 --   whole_lines n w xs                how many of n lines, w cells wide, lie whole in a slice
 --   decide_told lists nodes .. row    what is told, the first number of the list that applies
+--   DecideTold lists .. row r         the result r tells that, or want of memory where nothing else is told
 --   Checked lists nodes .. c          what they have where nothing is told of them
 --   standing shows lacks              how a row stands, where some filling that fits shows it, and some lacks it
+--   TellsSure what out row b          b says whether the row is sure, for every question that out answers
+--   TellsPossible what out row b      b says whether it is possible
 --   Decided what out row s            s is how the row stands, for every question that out answers
-use Rattle.std.specs.Prelude.{◌≡◌, ℕ, ◌+◌, ◌*◌, ◌/◌, ◌^◌, ◌<◌, ◌≤◌, min, Bool, true, false, ◌↔◌, List, ◌++◌, length, ◌==◌, nat_le, slice_index_or}
+use Rattle.std.specs.Prelude.{◌≡◌, ℕ, ◌+◌, ◌*◌, ◌/◌, ◌^◌, ◌<◌, ◌≤◌, min, Bool, true, false, ◌↔◌, List, ◌++◌, length, Some, None, Result, MatchResult, ◌==◌, nat_le, slice_index_or}
 use Rattle.condition.specs.Cond.{Cell, Cond, cells_of, numbers_in, gaps_in, has}
-use Rattle.condition.specs.Refusals.{Told, first, unless}
+use Rattle.condition.specs.Refusals.{Told, told, first, unless}
+use Rattle.condition.specs.declared.Refusal.{Refusal}
+use Rattle.condition.specs.declared.Refusal.TheVariants.{NoMemory}
 use Rattle.condition.specs.Store.{count, store_told}
 use Rattle.evaluate.specs.Filling.{Filling, holds}
 use Rattle.list.specs.Lists.{Line, Row}
@@ -67,6 +72,11 @@ decide_told lists nodes answer n w row =
     (first (unless (length row == w) 8 (length row))
     (nine_told (known_in nodes lists) (deciding (lines_in nodes n w answer) row) row))
 
+-- a call that may also want memory is done where nothing is told, and else tells the first that applies, want of memory last
+abbrev pub DecideTold : {T : Type 0} → (lists nodes answer : List ℕ) → ℕ → ℕ → Row → Result T Refusal → Type 0
+DecideTold lists nodes answer n w row r =
+    let t = decide_told lists nodes answer n w row in MatchResult r (λ _. t ≡ None) (λ e. Some (told e) ≡ first t (Some (told NoMemory)))
+
 abbrev pub standing : Bool → Bool → Standing
 standing true false = stands.Standing.Sure
 standing true true = stands.Standing.Possible
@@ -92,9 +102,16 @@ something_fits stands.Standing.Possible = true
 something_fits stands.Standing.Impossible = true
 something_fits stands.Standing.NothingFits = false
 
+-- a test says of a row whether it is sure, or possible, for every question that out answers
+abbrev pub TellsSure : Cond → List Line → Row → Bool → Type 0
+TellsSure what out row b = (ts : List (List Line)) (q : Query) → Answers what ts q out → (b ≡ true) ↔ Sure what ts q row
+
+abbrev pub TellsPossible : Cond → List Line → Row → Bool → Type 0
+TellsPossible what out row b = (ts : List (List Line)) (q : Query) → Answers what ts q out → (b ≡ true) ↔ Possible what ts q row
+
 pub record Decided (what : Cond) (out : List Line) (row : Row) (s : Standing) : Type 0 where
-  pub sure : (ts : List (List Line)) (q : Query) → Answers what ts q out → (is_sure s ≡ true) ↔ Sure what ts q row
-  pub possible : (ts : List (List Line)) (q : Query) → Answers what ts q out → (is_possible s ≡ true) ↔ Possible what ts q row
+  pub sure : TellsSure what out row (is_sure s)
+  pub possible : TellsPossible what out row (is_possible s)
   pub fits : (something_fits s ≡ true) ↔ ((v : Filling) × (holds v what ≡ true))
   -- the same over the numbers below 2^64
   pub sure_below : (ts : List (List Line)) (q : Query) → Answers what ts q out → (is_sure s ≡ true) ↔ SureBelow (2 ^ 64) what ts q row

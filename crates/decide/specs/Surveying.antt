@@ -1,13 +1,20 @@
 -- What decides a row: the nodes that are reached, and the gaps and numbers that are named.
 --
---   Surveyed nodes what ls row c ms s    of the first c nodes, all that what is known and the lines ls reach is marked in ms, and s has
---                                        noted the gaps and, with the row's, the numbers that these name
-use Rattle.std.specs.Prelude.{◌≡◌, ℕ, ◌^◌, ◌<◌, ◌≤◌, Bool, true, List, ◌++◌, length, ◌≢◌, slice_index}
-use Rattle.condition.specs.Cond.{Cond, numbers_in, gaps_in, has}
+--   numbers_for q, gaps_for q    the numbers and the gaps that count for a row that is looked for
+--   cells_for q                the cells that name them: those of what is known, of the lines that decide the row, and the row's numbers
+--   Surveyed q ms s            what is known and the lines that decide the row are marked in ms, with all that they reach, and s has
+--                              noted these cells
+--   FewNamed s names           the gaps that s has noted have these names, at most six, and the numbers are at most eight
+use Rattle.std.specs.Prelude.{◌≡◌, ℕ, ◌≤◌, Bool, true, List, ◌++◌, map, length}
+use Rattle.condition.specs.Cond.{Cell, known, Cond, numbers_in, gaps_in, has}
+use Rattle.condition.specs.Store.{count}
 use Rattle.list.specs.Lists.{Line, Row}
-use Rattle.decide.specs.Reaching.{Closed, marked_cells, AllCovered}
-use Rattle.decide.specs.Noting.{gap_noted, numbers_noted}
+use Rattle.decide.specs.Reaching.{marked, Closed, marked_cells, AllCovered}
+use Rattle.decide.specs.Matching.{LinesMarked}
+use Rattle.decide.specs.Noting.{gaps_noted, numbers_noted, Noted}
+use Rattle.decide.specs.Sought.{known_of, deciding_of}
 use Rattle.decide.specs.Standing.{named_cells}
+use Rattle.decide.specs.declared.sought.Sought.{Sought}
 use Rattle.decide.specs.declared.noting.Notes.{Notes}
 
 -- the numbers and the gaps that count
@@ -17,16 +24,25 @@ numbers_met what ls row = numbers_in (named_cells what ls) ++ row
 abbrev pub gaps_met : Cond → List Line → List ℕ
 gaps_met what ls = gaps_in (named_cells what ls)
 
-pub record Surveyed (nodes : List ℕ) (what : Cond) (ls : List Line) (row : Row) (c : ℕ) (ms : List Bool) (s : Notes) : Type 0 where
-  pub closed : Closed nodes c ms
-  pub covered : AllCovered (numbers_met what ls row) (gaps_met what ls) nodes c ms
-  pub few : s.many ≤ 9
-  pub long : length s.gaps ≡ 64
-  pub room : length s.numbers ≡ 9
-  pub gaps : (k : ℕ) → gap_noted s k ≡ has (gaps_met what ls) k
-  pub apart : (i j : ℕ) → i < j → j < s.many → slice_index s.numbers i ≢ slice_index s.numbers j
-  pub only : (i : ℕ) → i < s.many → has (numbers_met what ls row) (slice_index s.numbers i) ≡ true
-  pub low : (i : ℕ) → i < s.many → slice_index s.numbers i < 2 ^ 64
-  pub all : s.many < 9 → (n : ℕ) → has (numbers_met what ls row) n ≡ true → has (numbers_noted s) n ≡ true
+abbrev pub numbers_for : Sought → List ℕ
+numbers_for q = numbers_met (known_of q) (deciding_of q) q.row.now
+
+abbrev pub gaps_for : Sought → List ℕ
+gaps_for q = gaps_met (known_of q) (deciding_of q)
+
+abbrev pub cells_for : Sought → List Cell
+cells_for q = named_cells (known_of q) (deciding_of q) ++ map known q.row.now
+
+pub record Surveyed (q : Sought) (ms : List Bool) (s : Notes) : Type 0 where
+  pub known : marked ms q.known ≡ true
+  pub lines : LinesMarked q.answer.now q.row.now 0 q.lines ms
+  pub closed : Closed q.nodes.now (count q.nodes.now) ms
+  pub covered : AllCovered (numbers_for q) (gaps_for q) q.nodes.now (count q.nodes.now) ms
+  pub noted : Noted (cells_for q) s
   -- the marked nodes and the row name all numbers
-  pub numbers : (n : ℕ) → has (numbers_in (marked_cells nodes ms c) ++ row) n ≡ has (numbers_met what ls row) n
+  pub numbers : (n : ℕ) → has (numbers_in (marked_cells q.nodes.now ms (count q.nodes.now)) ++ q.row.now) n ≡ has (numbers_for q) n
+
+pub record FewNamed (s : Notes) (names : List ℕ) : Type 0 where
+  pub gaps : names ≡ gaps_noted s
+  pub few : length names ≤ 6
+  pub numbers : length (numbers_noted s) ≤ 8

@@ -1,17 +1,16 @@
 // What is passed in to deciding, checked.
-ghost use Rattle.std.specs.Prelude.{◌≡◌, ℕ, ◌+◌, ◌*◌, ◌≤◌, List, length, IfOk};
-ghost use Rattle.condition.specs.Cond.{Cond};
+ghost use Rattle.std.specs.Prelude.{◌≡◌, ◌*◌, ◌≤◌, length, IfOk};
 ghost use Rattle.condition.specs.Refusals.{outcome};
-ghost use Rattle.condition.specs.Store.{count};
 ghost use Rattle.list.specs.Layout.{line_size};
-ghost use Rattle.list.specs.Lists.{Line};
-ghost use Rattle.decide.specs.Counting.{Rising};
-ghost use Rattle.decide.specs.Noting.{gap_noted};
+ghost use Rattle.decide.specs.Sought.{known_of, deciding_of};
 ghost use Rattle.decide.specs.Standing.{whole_lines, answer_told, nine_told, Checked};
-ghost use Rattle.decide.specs.Surveying.{Surveyed};
+ghost use Rattle.decide.specs.Surveying.{Surveyed, FewNamed};
 
 use crate::counting::count_numbers;
-use crate::noting::{Names, Notes};
+use crate::marked::Marks;
+use crate::noting::Notes;
+use crate::sought::Sought;
+use arrayvec::ArrayVec;
 use condition::{Refusal, store_count};
 use list::{any_lines_fit, any_lines_named, check_lists, check_named};
 
@@ -53,24 +52,20 @@ pub(crate) fn check_answer(
 
 // The gaps that decide a row, where they are at most six, and the numbers that decide it at most eight.
 pub(crate) fn check_named_few(
-    nodes: &[u64],
-    n: usize,
-    marks: &[bool],
-    row: &[u64],
+    sought: &Sought,
+    marks: &Marks,
     notes: &Notes,
-) -> Result<Names, Refusal>
-    requires stands { (n ≤ count nodes.now) × (1 + 5 * n ≤ length nodes.now) }
-    requires fits { n ≤ length marks.now }
-    requires few { notes.now.many ≤ 9 }
-    ensures refusal { (what : Cond) (ls : List Line) → Surveyed nodes.now what ls row.now n marks.now notes.now → outcome result ≡ nine_told what ls row.now }
-    ensures value { IfOk result (λ g. Rising (gap_noted notes.now) 64 g.at g.many × (notes.now.many ≤ 8)) }
+) -> Result<ArrayVec<u64, 6>, Refusal>
+    ensures refusal { Surveyed sought.now marks.now notes.now → outcome result ≡ nine_told (known_of sought.now) (deciding_of sought.now) sought.now.row.now }
+    ensures value { IfOk result (λ gaps. FewNamed notes.now gaps.items) }
 {
     let gaps = notes.count_gaps();
     if gaps > 6 {
         return Err(Refusal::TooManyGaps(gaps));
     }
     if notes.numbers().len() > 8 {
-        return Err(Refusal::TooManyNumbersAt(64 + count_numbers(nodes, n, marks, row)));
+        let numbers = count_numbers(&sought.marked(marks), sought.row);
+        return Err(Refusal::TooManyNumbersAt(64 + numbers));
     }
     Ok(notes.gap_names())
 }

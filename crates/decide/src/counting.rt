@@ -1,23 +1,22 @@
 // How many different numbers the marked nodes of a store and a row name.
-ghost use Rattle.std.specs.Prelude.{◌≡◌, ℕ, ◌+◌, ◌*◌, ◌^◌, ◌<◌, ◌≤◌, List, [], ◌∷◌, ◌++◌, length};
+ghost use Rattle.std.specs.Prelude.{◌≡◌, ℕ, ◌+◌, ◌^◌, ◌<◌, List, [], ◌∷◌, ◌++◌};
 ghost use Rattle.condition.specs.Cond.{numbers_in, has};
-ghost use Rattle.condition.specs.Store.{count};
 ghost use Rattle.condition.specs.Shapes.{cell_of, Named};
-ghost use Rattle.decide.specs.Reaching.{own_cells, marked_cells};
+ghost use Rattle.decide.specs.Reaching.{own_cells};
+ghost use Rattle.decide.specs.Marked.{cells_marked};
 ghost use Rattle.decide.specs.Counting.{counted, Least};
 
-use condition::{Cell, Node, node_at};
+use crate::marked::Marked;
+use condition::{Cell, Node};
 
-// How many different numbers the marked ones of the first n nodes and a row name. It looks through all of them again for each different number.
-pub(crate) fn count_numbers(nodes: &[u64], n: usize, marks: &[bool], row: &[u64]) -> u64
-    requires stands { (n ≤ count nodes.now) × (1 + 5 * n ≤ length nodes.now) }
-    requires fits { n ≤ length marks.now }
-    ensures count { result ≡ counted (2 ^ 64) (has (numbers_in (marked_cells nodes.now marks.now n) ++ row.now)) }
+// How many different numbers marked nodes and a row name. It looks through all of them again for each different number.
+pub(crate) fn count_numbers(marked: &Marked, row: &[u64]) -> u64
+    ensures count { result ≡ counted (2 ^ 64) (has (numbers_in (cells_marked marked.now) ++ row.now)) }
     ensures small { result + 64 < 2 ^ 64 }
 {
     let mut many = 0;
     let mut low = 0;
-    while let Some(number) = least_number(nodes, n, marks, row, low) {
+    while let Some(number) = least_number(marked, row, low) {
         many += 1;
         if number == u64::MAX {
             return many;
@@ -27,17 +26,13 @@ pub(crate) fn count_numbers(nodes: &[u64], n: usize, marks: &[bool], row: &[u64]
     many
 }
 
-// The least number, not below low, that the marked ones of the first n nodes and a row name.
-fn least_number(nodes: &[u64], n: usize, marks: &[bool], row: &[u64], low: u64) -> Option<u64>
-    requires stands { (n ≤ count nodes.now) × (1 + 5 * n ≤ length nodes.now) }
-    requires fits { n ≤ length marks.now }
-    ensures { Least (numbers_in (marked_cells nodes.now marks.now n) ++ row.now) low result }
+// The least number, not below low, that marked nodes and a row name.
+fn least_number(marked: &Marked, row: &[u64], low: u64) -> Option<u64>
+    ensures { Least (numbers_in (cells_marked marked.now) ++ row.now) low result }
 {
     let mut best = least_in_row(row, low);
-    for i in 0..n {
-        if marks[i] {
-            best = lower_by_node(best, node_at(nodes, 1 + 5 * i), low);
-        }
+    for i in marked.places() {
+        best = lower_by_node(best, marked.node(i), low);
     }
     best
 }
@@ -46,11 +41,7 @@ fn least_number(nodes: &[u64], n: usize, marks: &[bool], row: &[u64], low: u64) 
 fn least_in_row(row: &[u64], low: u64) -> Option<u64>
     ensures { Least row.now low result }
 {
-    let mut best = None;
-    for a in (0..row.len()).rev() {
-        best = lower(best, row[a], low);
-    }
-    best
+    row.iter().copied().filter(|number| *number >= low).min()
 }
 
 // The least of best and of those numbers that a node compares and that are not below low.

@@ -15,6 +15,7 @@ mod folding;
 mod gaps;
 mod interning;
 mod lanes;
+mod marked;
 mod matching;
 mod noting;
 mod pool;
@@ -25,6 +26,7 @@ mod search;
 mod showing;
 mod sides;
 mod simplifying;
+mod sought;
 mod surveying;
 mod task;
 mod trying;
@@ -48,20 +50,14 @@ impl Standing {
     pub fn is_sure(self) -> bool
         ensures { result ≡ is_sure self }
     {
-        match self {
-            Standing::Sure | Standing::NothingFits => true,
-            Standing::Possible | Standing::Impossible => false,
-        }
+        matches!(self, Standing::Sure | Standing::NothingFits)
     }
 
     // Whether a row that stands so is possible.
     pub fn is_possible(self) -> bool
         ensures { result ≡ is_possible self }
     {
-        match self {
-            Standing::Sure | Standing::Possible => true,
-            Standing::Impossible | Standing::NothingFits => false,
-        }
+        matches!(self, Standing::Sure | Standing::Possible)
     }
 
     // How a row stands, where some filling that fits shows it, and where some lacks it.
@@ -79,58 +75,40 @@ impl Standing {
 
 // Theorems about deciding: see specs/Deciding.antt.
 
-pub fn by_condition() -> u8
+pub fn by_condition()
     ensures { ByCondition }
-{
-    0
-}
+{}
 
-pub fn deciding_enough() -> u8
+pub fn deciding_enough()
     ensures { DecidingEnough }
-{
-    0
-}
+{}
 
-pub fn sure_by_name() -> u8
+pub fn sure_by_name()
     ensures { SureByName }
-{
-    0
-}
+{}
 
-pub fn decided_within_64_bits() -> u8
+pub fn decided_within_64_bits()
     ensures { DecidedWithin64Bits }
-{
-    0
-}
+{}
 
 // What can still come of a condition while some gaps are open: see specs/Might.antt.
 
-pub fn might_sound() -> u8
+pub fn might_sound()
     ensures { MightSound }
-{
-    0
-}
+{}
 
-pub fn might_exact() -> u8
+pub fn might_exact()
     ensures { MightExact }
-{
-    0
-}
+{}
 
-pub fn few_steps() -> u8
+pub fn few_steps()
     ensures { FewSteps }
-{
-    0
-}
+{}
 
-pub fn least_step() -> u8
+pub fn least_step()
     ensures { LeastStep }
-{
-    0
-}
+{}
 
-pub fn least_all() -> u8
+pub fn least_all()
     ensures { LeastAll }
-{
-    0
-}
+{}

@@ -1,146 +1,116 @@
 // The gaps and the numbers that cells name.
-ghost use Rattle.std.specs.Prelude.{◌≡◌, ℕ, ◌+◌, ◌*◌, ◌<◌, ◌≤◌, Bool, true, List, [], ◌∷◌, ◌++◌, length, take};
-ghost use Rattle.condition.specs.Cond.{Cell as SpecCell, has};
-ghost use Rattle.condition.specs.Store.{count, has_name};
+ghost use Rattle.std.specs.Prelude.{◌≡◌, ◌≤◌, true, [], ◌∷◌, map, length, drop};
+ghost use Rattle.condition.specs.Cond.{known};
+ghost use Rattle.condition.specs.Store.{has_name};
 ghost use Rattle.condition.specs.Shapes.{cell_of, Named};
-ghost use Rattle.decide.specs.Reaching.{own_cells, marked_cells};
-ghost use Rattle.decide.specs.Counting.{counted, Rising};
-ghost use Rattle.decide.specs.Noting.{gap_noted, Noted, numbers_noted};
+ghost use Rattle.list.specs.Layout.{line_size, cells_in, cells_fit};
+ghost use Rattle.decide.specs.Reaching.{own_cells};
+ghost use Rattle.decide.specs.Marked.{cells_marked};
+ghost use Rattle.decide.specs.Noting.{gaps_noted, numbers_noted, Noted, NotesMore};
 
-use condition::{Cell, Node, node_at};
+use crate::marked::Marked;
+use arrayvec::ArrayVec;
+use condition::{Cell, Node};
+use list::line_cell;
 
 // All gaps that were noted, and of the numbers the first nine, each once.
-#[derive(Clone, Copy)]
+#[derive(Drop)]
 pub(crate) struct Notes {
     gaps: [bool; 64],
-    numbers: [u64; 9],
-    many: usize,
-}
-
-// At most six gaps, in rising order.
-#[derive(Clone, Copy)]
-pub(crate) struct Names {
-    at: [u64; 6],
-    many: usize,
-}
-
-impl Names {
-    // The gaps as a list.
-    pub(crate) fn list(&self) -> &[u64]
-        requires { self.now.many ≤ 6 }
-        ensures value { result.now ≡ take self.now.many self.now.at }
-        ensures len { length result.now ≡ self.now.many }
-    {
-        &self.at[0..self.many]
-    }
+    numbers: ArrayVec<u64, 9>,
 }
 
 impl Notes {
-    pub(crate) fn none() -> Notes
-        ensures few { result.many ≤ 9 }
-        ensures noted { Noted [] result }
+    // Nothing noted yet.
+    pub(crate) fn new() -> Notes
+        ensures { Noted [] result }
     {
         Notes {
             gaps: [false; 64],
-            numbers: [0; 9],
-            many: 0,
+            numbers: ArrayVec::new(),
         }
     }
 
     // Notes one more cell.
-    pub(crate) fn note(&mut self, cell: Cell)
-        requires few { self.old.many ≤ 9 }
-        requires named { has_name (cell_of cell) ≡ true }
-        ensures few { self.new.many ≤ 9 }
-        ensures noted { (cs : List SpecCell) → Noted cs self.old → Noted (cell_of cell ∷ cs) self.new }
+    fn note(&mut self, cell: Cell)
+        requires { has_name (cell_of cell) ≡ true }
+        ensures { NotesMore (cell_of cell ∷ []) self.old self.new }
     {
         match cell {
             Cell::Gap(gap) => self.gaps[gap as usize] = true,
             Cell::Number(number) => {
-                if self.many < 9 && !self.has_number(number) {
-                    self.numbers[self.many] = number;
-                    self.many += 1;
+                if !self.numbers.is_full() && !self.numbers.contains(&number) {
+                    self.numbers.push(number);
                 }
             }
         }
     }
 
+    // Notes the numbers of a row.
+    pub(crate) fn note_row(&mut self, row: &[u64])
+        ensures { NotesMore (map known row.now) self.old self.new }
+    {
+        for number in row {
+            self.note(Cell::Number(*number));
+        }
+    }
+
+    // Notes the cells of a line, w cells wide.
+    pub(crate) fn note_line(&mut self, line: &[u64], w: usize)
+        requires long { line_size w ≤ length line.now }
+        requires cells { cells_fit w (drop 1 line.now) ≡ true }
+        ensures { NotesMore (cells_in w (drop 1 line.now)) self.old self.new }
+    {
+        for a in 0..w {
+            self.note(line_cell(line, a));
+        }
+    }
+
+    // Notes the cells that marked nodes compare.
+    pub(crate) fn note_marked(&mut self, marked: &Marked)
+        ensures { NotesMore (cells_marked marked.now) self.old self.new }
+    {
+        for i in marked.places() {
+            self.note_node(marked.node(i));
+        }
+    }
+
+    // Notes the cells that a node compares.
+    fn note_node(&mut self, node: Node)
+        requires { Named node }
+        ensures { NotesMore (own_cells node) self.old self.new }
+    {
+        if let Node::Equal(a, b) = node {
+            self.note(a);
+            self.note(b);
+        }
+    }
+
     // How many gaps were noted.
     pub(crate) fn count_gaps(&self) -> u32
-        ensures { result ≡ counted 64 (gap_noted self.now) }
+        ensures { result ≡ length (gaps_noted self.now) }
     {
-        let mut many = 0;
-        for k in 0..64 {
-            if self.gaps[k] {
-                many += 1;
+        self.gaps.iter().filter(|noted| **noted).count() as u32
+    }
+
+    // The gaps that were noted, of which there are at most six.
+    pub(crate) fn gap_names(&self) -> ArrayVec<u64, 6>
+        requires { length (gaps_noted self.now) ≤ 6 }
+        ensures { result.items ≡ gaps_noted self.now }
+    {
+        let mut names = ArrayVec::new();
+        for (gap, noted) in self.gaps.iter().enumerate() {
+            if *noted {
+                names.push(gap as u64);
             }
         }
-        many
+        names
     }
 
     // The numbers that were noted.
     pub(crate) fn numbers(&self) -> &[u64]
-        requires { self.now.many ≤ 9 }
-        ensures value { result.now ≡ numbers_noted self.now }
-        ensures len { length result.now ≡ self.now.many }
+        ensures { result.now ≡ numbers_noted self.now }
     {
-        &self.numbers[0..self.many]
-    }
-
-    // The gaps that were noted, of which there are at most six.
-    pub(crate) fn gap_names(&self) -> Names
-        requires { counted 64 (gap_noted self.now) ≤ 6 }
-        ensures { Rising (gap_noted self.now) 64 result.at result.many }
-    {
-        let mut at = [0u64; 6];
-        let mut many = 0;
-        for k in 0..64 {
-            if self.gaps[k] {
-                at[many] = k as u64;
-                many += 1;
-            }
-        }
-        Names { at, many }
-    }
-
-    // Whether a number was noted.
-    fn has_number(&self, number: u64) -> bool
-        requires { self.now.many ≤ 9 }
-        ensures { result ≡ has (numbers_noted self.now) number }
-    {
-        for i in 0..self.many {
-            if self.numbers[i] == number {
-                return true;
-            }
-        }
-        false
-    }
-}
-
-// Notes the cells that a node compares.
-fn note_node(node: Node, notes: &mut Notes)
-    requires few { notes.old.many ≤ 9 }
-    requires named { Named node }
-    ensures few { notes.new.many ≤ 9 }
-    ensures noted { (cs : List SpecCell) → Noted cs notes.old → Noted (own_cells node ++ cs) notes.new }
-{
-    if let Node::Equal(a, b) = node {
-        notes.note(b);
-        notes.note(a);
-    }
-}
-
-// Notes the cells that the marked ones of the first n nodes compare.
-pub(crate) fn note_marked(nodes: &[u64], n: usize, marks: &[bool], notes: &mut Notes)
-    requires stands { (n ≤ count nodes.now) × (1 + 5 * n ≤ length nodes.now) }
-    requires fits { n ≤ length marks.now }
-    requires few { notes.old.many ≤ 9 }
-    ensures few { notes.new.many ≤ 9 }
-    ensures noted { (cs : List SpecCell) → Noted cs notes.old → Noted (marked_cells nodes.now marks.now n ++ cs) notes.new }
-{
-    for i in 0..n {
-        if marks[i] {
-            note_node(node_at(nodes, 1 + 5 * i), notes);
-        }
+        &self.numbers
     }
 }

@@ -1,5 +1,5 @@
 // The nodes that conditions reach, marked.
-ghost use Rattle.std.specs.Prelude.{◌≡◌, ℕ, ◌+◌, ◌*◌, ◌<◌, ◌≤◌, true, ◌&&◌, ◌||◌, List, length, ◌==◌, nat_lt};
+ghost use Rattle.std.specs.Prelude.{◌≡◌, ℕ, ◌+◌, ◌*◌, ◌≤◌, true, ◌&&◌, ◌||◌, List, length, ◌==◌, nat_lt};
 ghost use Rattle.condition.specs.Cond.{has};
 ghost use Rattle.condition.specs.Store.{count};
 ghost use Rattle.decide.specs.Reaching.{places_of, marked, Closed, AllCovered};

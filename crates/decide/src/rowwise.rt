@@ -1,28 +1,20 @@
 // Deciding how a row stands in an answer.
-ghost use Rattle.std.specs.Prelude.{◌≡◌, ℕ, ◌+◌, ◌*◌, ◌<◌, ◌≤◌, Bool, true, ◌↔◌, List, length, IfOk, IfErr, Some, None, MatchResult};
-ghost use Rattle.condition.specs.Refusals.{told, first};
-ghost use Rattle.condition.specs.Store.{count, cond_at};
+ghost use Rattle.std.specs.Prelude.{◌≡◌, IfOk, IfErr};
 ghost use Rattle.condition.specs.declared.Refusal.TheVariants.{NoMemory};
-ghost use Rattle.list.specs.Layout.{line_size, lines_in, known_in, lines_fit, lines_named};
-ghost use Rattle.list.specs.Lists.{Line};
-ghost use Rattle.query.specs.Ask.{Query};
-ghost use Rattle.answer.specs.Promise.{Answers, Sure, Possible};
-ghost use Rattle.decide.specs.Counting.{Rising};
-ghost use Rattle.decide.specs.Matching.{LinesMarked};
-ghost use Rattle.decide.specs.Noting.{gap_noted};
-ghost use Rattle.decide.specs.Reaching.{marked};
-ghost use Rattle.decide.specs.Showing.{deciding_in};
-ghost use Rattle.decide.specs.Standing.{decide_told, Decided};
-ghost use Rattle.decide.specs.Surveying.{Surveyed};
+ghost use Rattle.list.specs.Layout.{lines_in, known_in};
+ghost use Rattle.decide.specs.Sought.{known_of, lines_of};
+ghost use Rattle.decide.specs.Standing.{DecideTold, TellsSure, TellsPossible, Decided};
+ghost use Rattle.decide.specs.Surveying.{Surveyed, FewNamed};
 
 use crate::Standing;
 use crate::checking::{check_answer, check_named_few};
 use crate::coning::build_cone;
 use crate::lanes::Rails;
-use crate::noting::{Names, Notes};
-use crate::surveying::survey;
+use crate::marked::Marks;
+use crate::noting::Notes;
+use crate::sought::Sought;
 use crate::trying::try_all;
-use condition::Refusal;
+use condition::{MOST_NODES, Refusal};
 use std::alloc::Global;
 
 // How a row stands in an answer of so many lines, so many cells wide, over all fillings of all numbers that fit what is known. Nothing
@@ -36,10 +28,10 @@ pub fn decide_row(
     width: u64,
     row: &[u64],
 ) -> Result<Standing, Refusal>
-    ensures refusal { MatchResult result (λ _. decide_told lists.now nodes.now answer.now lines width row.now ≡ None) (λ e. Some (told e) ≡ first (decide_told lists.now nodes.now answer.now lines width row.now) (Some (told NoMemory))) }
+    ensures refusal { DecideTold lists.now nodes.now answer.now lines width row.now result }
     ensures decided { IfOk result (Decided (known_in nodes.now lists.now) (lines_in nodes.now lines width answer.now) row.now) }
 {
-    let mut marks = [false; 131072];
+    let mut marks = [false; MOST_NODES as usize];
     decide_marked(heap, lists, nodes, answer, lines, width, row, &mut marks)
 }
 
@@ -53,8 +45,8 @@ pub fn sure(
     width: u64,
     row: &[u64],
 ) -> Result<bool, Refusal>
-    ensures refusal { MatchResult result (λ _. decide_told lists.now nodes.now answer.now lines width row.now ≡ None) (λ e. Some (told e) ≡ first (decide_told lists.now nodes.now answer.now lines width row.now) (Some (told NoMemory))) }
-    ensures sure { IfOk result (λ b. (ts : List (List Line)) (q : Query) → Answers (known_in nodes.now lists.now) ts q (lines_in nodes.now lines width answer.now) → (b ≡ true) ↔ Sure (known_in nodes.now lists.now) ts q row.now) }
+    ensures refusal { DecideTold lists.now nodes.now answer.now lines width row.now result }
+    ensures sure { IfOk result (TellsSure (known_in nodes.now lists.now) (lines_in nodes.now lines width answer.now) row.now) }
 {
     let standing = decide_row(heap, lists, nodes, answer, lines, width, row)?;
     Ok(standing.is_sure())
@@ -70,8 +62,8 @@ pub fn possible(
     width: u64,
     row: &[u64],
 ) -> Result<bool, Refusal>
-    ensures refusal { MatchResult result (λ _. decide_told lists.now nodes.now answer.now lines width row.now ≡ None) (λ e. Some (told e) ≡ first (decide_told lists.now nodes.now answer.now lines width row.now) (Some (told NoMemory))) }
-    ensures possible { IfOk result (λ b. (ts : List (List Line)) (q : Query) → Answers (known_in nodes.now lists.now) ts q (lines_in nodes.now lines width answer.now) → (b ≡ true) ↔ Possible (known_in nodes.now lists.now) ts q row.now) }
+    ensures refusal { DecideTold lists.now nodes.now answer.now lines width row.now result }
+    ensures possible { IfOk result (TellsPossible (known_in nodes.now lists.now) (lines_in nodes.now lines width answer.now) row.now) }
 {
     let standing = decide_row(heap, lists, nodes, answer, lines, width, row)?;
     Ok(standing.is_possible())
@@ -86,49 +78,55 @@ fn decide_marked(
     lines: u64,
     width: u64,
     row: &[u64],
-    marks: &mut [bool],
+    marks: &mut Marks,
 ) -> Result<Standing, Refusal>
-    requires { 131072 ≤ length marks.old }
-    ensures refusal { MatchResult result (λ _. decide_told lists.now nodes.now answer.now lines width row.now ≡ None) (λ e. Some (told e) ≡ first (decide_told lists.now nodes.now answer.now lines width row.now) (Some (told NoMemory))) }
+    ensures refusal { DecideTold lists.now nodes.now answer.now lines width row.now result }
     ensures decided { IfOk result (Decided (known_in nodes.now lists.now) (lines_in nodes.now lines width answer.now) row.now) }
 {
-    let count = check_answer(lists, nodes, answer, lines, width)?;
+    check_answer(lists, nodes, answer, lines, width)?;
     if row.len() as u64 != width {
         return Err(Refusal::WrongWidth(row.len() as u64));
     }
-    let n = lines as usize;
-    let notes = survey(nodes, lists[1], answer, n, row, marks);
-    let names = check_named_few(nodes, count as usize, marks, row, &notes)?;
-    settle_row(heap, nodes, lists[1], answer, n, row, marks, &notes, &names)
+    let sought = Sought {
+        nodes,
+        known: lists[1],
+        answer,
+        lines: lines as usize,
+        row,
+    };
+    let notes = sought.survey(marks);
+    let gaps = check_named_few(&sought, marks, &notes)?;
+    settle_row(heap, &sought, marks, &notes, &gaps)
 }
 
 // How a row stands, once what decides it is surveyed; refused only for want of memory.
 fn settle_row(
     heap: Global,
-    nodes: &[u64],
-    known: u64,
-    answer: &[u64],
-    n: usize,
-    row: &[u64],
-    marks: &[bool],
+    sought: &Sought,
+    marks: &Marks,
     notes: &Notes,
-    names: &Names,
+    gaps: &[u64],
 ) -> Result<Standing, Refusal>
-    requires store { (1 + 5 * count nodes.now ≤ length nodes.now) × (known < count nodes.now) }
-    requires answer { (n * line_size (length row.now) ≤ length answer.now) × ((lines_fit n (length row.now) answer.now ≡ true) × (lines_named (count nodes.now) n (length row.now) answer.now ≡ true)) }
-    requires marks { (count nodes.now ≤ length marks.now) × ((marked marks.now known ≡ true) × (LinesMarked answer.now row.now 0 n marks.now)) }
-    requires surveyed { Surveyed nodes.now (cond_at nodes.now known) (deciding_in nodes.now answer.now n row.now) row.now (count nodes.now) marks.now notes.now }
-    requires few { (Rising (gap_noted notes.now) 64 names.now.at names.now.many) × (notes.now.many ≤ 8) }
+    requires surveyed { Surveyed sought.now marks.now notes.now }
+    requires few { FewNamed notes.now gaps.now }
     ensures refused { IfErr result (λ e. e ≡ NoMemory) }
-    ensures decided { IfOk result (Decided (cond_at nodes.now known) (lines_in nodes.now n (length row.now) answer.now) row.now) }
+    ensures decided { IfOk result (Decided (known_of sought.now) (lines_of sought.now) sought.now.row.now) }
 {
-    let cone = build_cone(heap, nodes, known, answer, n, row, marks)?;
+    let cone = build_cone(
+        heap,
+        sought.nodes,
+        sought.known,
+        sought.answer,
+        sought.lines,
+        sought.row,
+        marks,
+    )?;
     let count = cone.nodes[0] as usize;
     let mut values = vec![in heap; Rails::default(); count]?;
     let found = try_all(
         cone.nodes.as_slice(),
         cone.goal,
-        names.list(),
+        gaps,
         notes.numbers(),
         values.as_mut_slice(),
     );

@@ -1,14 +1,13 @@
-use Rattle.std.proofs.Common.{◌≡◌, length, drop, arith}
-use Rattle.std.proofs.lemmas.List.{drop_all}
-use Rattle.decide.proofs.Agreeing.{drop_back}
-use Rattle.decide.proofs.Least.{least_none}
+use Rattle.std.proofs.Common.{leb, sym, ◌∙◌, rules}
+use borrow.Author.Tests.{tests}
+use Rattle.std.proofs.lemmas.Iterator.{YieldsList-from_slice}
+use Rattle.std.proofs.lemmas.Iterator.Adapters.{option_map_id}
+use Rattle.std.proofs.lemmas.Iterator.Consumers.{YieldsList-from_copied, YieldsList-from_filter, YieldsList-at, min_from_yields_List}
+use Rattle.decide.proofs.Least.{least_row}
 use Rattle.decide.proofs.counting.least_in_row.Goals as goal
 
-pub loop-a-init : goal.loop-a-init
-loop-a-init c = rw (drop_all (length c.args.row.now) c.args.row.now (omega arith)) (least_none c.args.low)
-
-pub loop-a-preserved : goal.loop-a-preserved
-loop-a-preserved c = rw (drop_back c.args.row.now c.loop-a.a 0 c.loop-a-test.true (omega arith)) (c.lower-best.ensures (drop c.loop-a.a c.args.row.now) c.loop-a.invariant)
-
 pub returns : goal.returns
-returns c = let e : c.loop-a.a ≡ 0 = omega arith in rw e at c.loop-a.invariant
+returns c =
+    let e = min_from_yields_List c.filter.result c.min.result c.min.ensures.ran
+    (YieldsList-from_filter _ (leb c.args.low) (YieldsList-at c.filter.ensures.source (YieldsList-from_copied (YieldsList-from_slice c.args.row.now (cc)))) c.filter.ensures.closure (λ x b q k. search (rules, tests))) in
+    rw (sym (option_map_id c.min.result) ∙ e) (least_row c.args.low c.args.row.now)

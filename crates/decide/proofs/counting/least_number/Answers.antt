@@ -1,24 +1,22 @@
-use Rattle.std.proofs.Common.{◌≡◌, ◌++◌, append_assoc, arith}
+use Rattle.std.proofs.Common.{◌++◌, ap, ◌∙◌}
 use Rattle.condition.specs.Cond.{numbers_in}
-use Rattle.condition.specs.Nodes.{decoded}
-use Rattle.condition.proofs.Named.{numbers_app}
-use Rattle.decide.specs.Reaching.{own_cells, marked_cells}
-use Rattle.decide.proofs.Noted.{marked_more, marked_pass}
+use Rattle.decide.specs.Marked.{places_left}
+use Rattle.decide.specs.Reaching.{cells_among}
+use Rattle.decide.proofs.Least.{least_among}
+use Rattle.decide.proofs.Places.{place_inside}
 use Rattle.decide.proofs.counting.least_number.Goals as goal
-use Rattle.decide.proofs.counting.least_number.Goals.{then-marks-i, else-marks-i}
 
 pub loop-i-init : goal.loop-i-init
-unfolding marked_cells numbers_in
+unfolding numbers_in
 loop-i-init c = c.least_in_row-best.ensures
+
+pub node-requires : goal.node-requires
+node-requires c =
+    place_inside c.args.marked.now.marks.now c.args.marked.now.n c.into_iter-i-iterator.result c.loop-i.i-iterator c.next.new.self c.loop-i.yielded c.next.result c.in-Some.i
+    (ap places_left c.into_iter-i-iterator.ensures.into_iter_gives ∙ c.places-i-items.ensures) c.loop-i.yielded_by c.in-Some.is c.next.ensures.steps
 
 pub loop-i-preserved : goal.loop-i-preserved
 loop-i-preserved c =
-    elim c.if-marks-i.branch [
-      | then-marks-i w ↦
-          rw (w.best-is, marked_more c.args.nodes.now c.args.marks.now c.loop-i.i w.if-marks-i.true, numbers_app (own_cells (decoded c.args.nodes.now c.loop-i.i)) (marked_cells c.args.nodes.now c.args.marks.now c.loop-i.i), append_assoc, ← w.node_at.ensures.read)
-          (w.lower_by_node-best.ensures (numbers_in (marked_cells c.args.nodes.now c.args.marks.now c.loop-i.i) ++ c.args.row.now) c.loop-i.invariant)
-      | else-marks-i w ↦ rw (w.best-is, marked_pass c.args.nodes.now c.args.marks.now c.loop-i.i w.if-marks-i.false) c.loop-i.invariant
-    ]
-
-pub returns : goal.returns
-returns c = let e : c.loop-i.i ≡ c.args.n = omega arith in rw e at c.loop-i.invariant
+    let nodes = c.args.marked.now.nodes.now in
+    least_among nodes c.loop-i.yielded c.args.row.now c.in-Some.i c.args.low c.lower_by_node-best.result
+    (rw c.node.ensures.read at (c.lower_by_node-best.ensures (numbers_in (cells_among nodes c.loop-i.yielded) ++ c.args.row.now) c.loop-i.invariant))

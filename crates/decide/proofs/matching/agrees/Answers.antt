@@ -1,15 +1,12 @@
-use Rattle.std.proofs.Common.{◌*◌, length, drop, refl, arith}
-use Rattle.decide.proofs.Agreeing.{agrees_step, agrees_none}
+use Rattle.std.proofs.Common.{◌∙◌, rules}
+use borrow.Author.Tests.{tests}
+use Rattle.std.proofs.lemmas.Iterator.{YieldsList-from_slice}
+use Rattle.std.proofs.lemmas.Iterator.Consumers.{YieldsList-from_enumerate}
+use Rattle.std.proofs.lemmas.Iterator.Search.{all_from_yields_List}
+use Rattle.decide.proofs.Agreeing.{agrees_at, agrees_all}
 use Rattle.decide.proofs.matching.agrees.Goals as goal
-
-pub returns-then-not-agrees_cell : goal.returns-then-not-agrees_cell
-returns-then-not-agrees_cell c =
-    let e = agrees_step (length c.args.row.now) c.loop-a.a c.args.line.now c.args.row.now c.loop-a-test.true refl in grind arith
-
-pub loop-a-preserved : goal.loop-a-preserved
-loop-a-preserved c =
-    let e = agrees_step (length c.args.row.now) c.loop-a.a c.args.line.now c.args.row.now c.loop-a-test.true refl in grind arith
 
 pub returns : goal.returns
 returns c =
-    let e = agrees_none (length c.args.row.now) c.loop-a.a (drop (2 * c.loop-a.a) (drop 1 c.args.line.now)) c.args.row.now (omega arith) (omega arith) in grind arith
+    all_from_yields_List (agrees_at c.args.line.now) _ _ c.all.result c.all.ensures.ran (YieldsList-from_enumerate (YieldsList-from_slice c.args.row.now (cc)) (cc)) (λ x b q k. search (rules, tests))
+    ∙ agrees_all c.args.line.now c.args.row.now

@@ -1,22 +1,32 @@
-use Rattle.std.proofs.Common.{◌+◌, ◌<◌, arith}
+use Rattle.std.proofs.Common.{◌+◌, lit<, length, append-nil, sym, ap, ◌∙◌, arith}
 use Rattle.decide.specs.Noting.{gap_noted}
 use Rattle.decide.proofs.Counted.{counted_yes, counted_more}
-use Rattle.decide.proofs.Rising.{rising_none, rising_pass, rising_more}
+use Rattle.decide.proofs.Passing.{passing_none, passing_yes, passing_no, length-passing_below}
 use Rattle.decide.proofs.noting.Notes.gap_names.Goals as goal
-use Rattle.decide.proofs.noting.Notes.gap_names.Goals.{then-self-k, else-self-k}
+use Rattle.decide.proofs.noting.Notes.gap_names.Goals.{then-noted, else-noted}
 
-pub loop-k-init : goal.loop-k-init
-loop-k-init c = rising_none (gap_noted c.args.self.now)
+pub loop-gap-init : goal.loop-gap-init
+loop-gap-init c = c.new-names.ensures ∙ sym (passing_none (gap_noted c.args.self.now))
 
-pub bounds-at-many : goal.bounds-at-many
-bounds-at-many c =
-    omega (arith, c.loop-k.invariant.many, c.loop-k.invariant.long, counted_yes c.loop-k.k (gap_noted c.args.self.now) c.if-self-k.true, counted_more (c.loop-k.k + 1) 64 (gap_noted c.args.self.now) (omega arith), c.requires)
+pub push-requires : goal.push-requires
+push-requires c =
+    let p = gap_noted c.args.self.now in (
+      lit< tt,
+      omega (
+        arith,
+        ap length c.loop-gap.invariant,
+        length-passing_below c.loop-gap.gap p,
+        counted_yes c.loop-gap.gap p c.if-noted.true,
+        counted_more (c.loop-gap.gap + 1) 64 p (omega arith),
+        length-passing_below 64 p,
+        c.requires,
+      ),
+    )
 
-pub loop-k-preserved : goal.loop-k-preserved
-loop-k-preserved c =
-    elim c.if-self-k.branch [
-      | then-self-k w ↦
-          let r : c.loop-k.many < 6 = omega (arith, c.loop-k.invariant.many, counted_yes c.loop-k.k (gap_noted c.args.self.now) w.if-self-k.true, counted_more (c.loop-k.k + 1) 64 (gap_noted c.args.self.now) (omega arith), c.requires) in
-          rw (w.at-is, w.many-is) (rising_more (gap_noted c.args.self.now) c.loop-k.k c.loop-k.many c.loop-k.at c.loop-k.invariant w.if-self-k.true r)
-      | else-self-k w ↦ rw (w.at-is, w.many-is) (rising_pass (gap_noted c.args.self.now) c.loop-k.k c.loop-k.many c.loop-k.at c.loop-k.invariant w.if-self-k.false)
+pub loop-gap-preserved : goal.loop-gap-preserved
+loop-gap-preserved c =
+    let p = gap_noted c.args.self.now in
+    elim c.if-noted.branch [
+      | then-noted w ↦ rw (w.names-is, w.push.ensures.items, c.loop-gap.invariant) (sym (passing_yes c.loop-gap.gap p w.if-noted.true))
+      | else-noted w ↦ rw w.names-is (c.loop-gap.invariant ∙ (sym (append-nil _) ∙ sym (passing_no c.loop-gap.gap p w.if-noted.false)))
     ]

@@ -1,31 +1,24 @@
 use Rattle.std.proofs.Common.{sym, ◌∙◌, arith}
-use Rattle.std.proofs.lemmas.Bool.{ltb-true}
-use Rattle.decide.proofs.Noted.{noted_gap, noted_number, noted_again}
+use Rattle.std.proofs.lemmas.Bool.{ltb-true, eqb-true, eqb-false}
+use Rattle.decide.proofs.Noted.{any_has, noted_gap, noted_number, noted_again}
 use Rattle.decide.proofs.noting.Notes.note.Goals as goal
-use Rattle.decide.proofs.noting.Notes.note.Goals.{else-self-lt9-via-then-self-lt9+else-not-has_number, else-self-lt9-via-else-self-lt9}
+use Rattle.decide.proofs.noting.Notes.note.Goals.{else-not-is_full-via-then-not-is_full+else-not-contains, else-not-is_full-via-else-not-is_full}
 
 pub returns-in-Gap : goal.returns-in-Gap
-returns-in-Gap c = record {
-  few = c.requires.few;
-  noted = λ cs s. rw c.in-Gap.is (noted_gap c.args.self.now.gaps c.args.self.now.numbers c.args.self.now.many cs s c.in-Gap.gap (ltb-true _ 64 (rw c.in-Gap.is at c.requires.named)));
-}
+returns-in-Gap c = λ ds h. rw c.in-Gap.is (noted_gap c.args.self.now ds c.in-Gap.gap (ltb-true _ 64 (rw c.in-Gap.is at c.requires)) h)
 
-pub returns-then-not-has_number : goal.returns-then-not-has_number
-returns-then-not-has_number c = record {
-  few = omega arith;
-  noted = λ cs s.
-      rw c.in-Number.is (noted_number c.args.self.now.gaps c.args.self.now.numbers c.args.self.now.many cs s c.in-Number.number (omega arith) c.if-self-lt9.true (sym c.if-not-has_number.ensures));
-}
+pub returns-then-not-contains : goal.returns-then-not-contains
+returns-then-not-contains c = λ ds h.
+    rw c.in-Number.is (noted_number c.args.self.now c.push.new.self ds c.in-Number.number (omega arith)
+    (rw c.deref.ensures.0 at (sym (c.contains.ensures.value ∙ any_has c.deref.result.now c.in-Number.number) ∙ c.if-not-contains.true)) c.push.ensures.items
+    (omega (arith, c.is_full.ensures.fits, eqb-false _ _ (sym c.is_full.ensures.value ∙ c.if-not-is_full.true))) h)
 
-pub returns-else-self-lt9 : goal.returns-else-self-lt9
-returns-else-self-lt9 c =
-    elim c.else-self-lt9.branch [
-      | else-self-lt9-via-then-self-lt9+else-not-has_number w ↦ record {
-        few = c.requires.few;
-        noted = λ cs s. rw c.in-Number.is (noted_again c.args.self.now.gaps c.args.self.now.numbers c.args.self.now.many cs s c.in-Number.number (λ l. sym w.has_number.ensures ∙ w.if-not-has_number.false));
-      }
-      | else-self-lt9-via-else-self-lt9 w ↦ record {
-        few = c.requires.few;
-        noted = λ cs s. rw c.in-Number.is (noted_again c.args.self.now.gaps c.args.self.now.numbers c.args.self.now.many cs s c.in-Number.number (λ l. absurd (omega (arith, w.if-self-lt9.false))));
-      }
+pub returns-else-not-is_full : goal.returns-else-not-is_full
+returns-else-not-is_full c =
+    elim c.else-not-is_full.branch [
+      | else-not-is_full-via-then-not-is_full+else-not-contains w ↦ λ ds h.
+          rw c.in-Number.is (noted_again c.args.self.now ds c.in-Number.number
+          (λ l. rw w.deref.ensures.0 at (sym (w.contains.ensures.value ∙ any_has w.deref.result.now c.in-Number.number) ∙ w.if-not-contains.false)) h)
+      | else-not-is_full-via-else-not-is_full w ↦ λ ds h.
+          rw c.in-Number.is (noted_again c.args.self.now ds c.in-Number.number (λ l. absurd (omega (arith, eqb-true _ _ (sym c.is_full.ensures.value ∙ w.if-not-is_full.false)))) h)
     ]

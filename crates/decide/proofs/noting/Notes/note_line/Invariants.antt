@@ -1,0 +1,7 @@
+use Rattle.std.proofs.Common.{take, drop}
+use Rattle.list.specs.Layout.{cells_in}
+use Rattle.decide.specs.Noting.{NotesMore}
+use Rattle.decide.proofs.noting.Notes.note_line.Given as goal
+
+abbrev pub invariant-loop-a : goal.invariant-loop-a
+invariant-loop-a l = NotesMore (take l.a (cells_in l.w (drop 1 l.line))) l.initial.self l.self
