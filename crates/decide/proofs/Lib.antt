@@ -21,7 +21,6 @@ pub mod Mights
 pub mod Steps
 pub mod Bits64
 pub mod Fours
-pub mod Listing
 pub mod Pools
 pub mod Spreading
 pub mod Gathering
