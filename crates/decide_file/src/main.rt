@@ -4,7 +4,6 @@
 
 mod text;
 
-use anyhow::anyhow;
 use condition::Refusal;
 use decide::{Standing, decide_row};
 use std::alloc::Global;
@@ -21,13 +20,9 @@ fn run(rt: &HostRuntime) -> anyhow::Result<()> {
     let mut bytes = Vec::new(heap);
     let mut stdin = rt.stdin();
     stdin.read_to_end(&mut bytes)?;
-    match read_instance(heap, bytes.as_slice()) {
-        Ok(instance) => {
-            tell(rt, standing(heap, &instance))?;
-            Ok(())
-        }
-        Err(fault) => Err(anyhow!(format!(in heap; "{fault}")?)),
-    }
+    let instance = read_instance(heap, bytes.as_slice())?;
+    tell(rt, standing(heap, &instance))?;
+    Ok(())
 }
 
 // How the empty row stands in an answer of one line without cells, whose condition is what is shown.
