@@ -11,13 +11,15 @@ use Rattle.condition.specs.declared.Node.TheVariants.{Equal, Both, Either}
 use Rattle.condition.proofs.Growing.{grown_self, grown_trans, grown_cond}
 use Rattle.evaluate.specs.Filling.{Filling, holds}
 use Rattle.evaluate.proofs.Holding.{holds_equal, holds_both, holds_either}
-use Rattle.list.specs.Layout.{line_size, cells_in, lines_in}
+use Rattle.list.specs.Layout.{line_size, cells_in}
 use Rattle.list.specs.Lists.{Line}
 use Rattle.decide.specs.Deciding.{gives, shows, agrees, deciding, cells_in_lines}
 use Rattle.decide.specs.Matching.{cells_at, node_at}
 use Rattle.decide.specs.Reaching.{Covers}
 use Rattle.decide.specs.Folding.{Begun, Built}
-use Rattle.decide.specs.Showing.{Means, Placed, row_cells, nodes_for, deciding_in}
+use Rattle.decide.specs.Showing.{Means, Placed, row_cells, nodes_for}
+use Rattle.decide.specs.Sought.{lines_of, deciding_of}
+use Rattle.decide.specs.declared.sought.Sought.{Sought}
 use Rattle.decide.proofs.Coverage.{covers_both, covers_left, covers_right}
 use Rattle.decide.proofs.Agreeing.{drop_back, cells_none, cells_back, lines_none, lines_back}
 
@@ -107,44 +109,44 @@ giving_more xs ys zs us line row a r e f d p l g i b o =
           (λ ns gs j. covers_pair ns gs (cell_of d) (known (get_or row (a - 1) 0)) (drop a (cells_in (length row) (drop 1 line))) (map known (drop a row)) j));
     }
 
--- the lines that decide a row, from the last to the first
-abbrev pub deciding_from : (nodes answer : List ℕ) → ℕ → List ℕ → ℕ → List Line
-deciding_from nodes answer n row i = deciding (drop i (lines_in nodes n (length row) answer)) row
+-- the lines that decide a q.row.now, from the last to the first
+abbrev pub deciding_from : Sought → ℕ → List Line
+deciding_from q i = deciding (drop i (lines_of q)) q.row.now
 
-pub from_none : (nodes answer : List ℕ) (n : ℕ) (row : List ℕ) → deciding_from nodes answer n row n ≡ []
+pub from_none : (q : Sought) → deciding_from q q.lines ≡ []
 unfolding deciding
-from_none nodes answer n row = rw (lines_none nodes n (length row) answer) refl
+from_none q = rw (lines_none q.nodes.now q.lines (length q.row.now) q.answer.now) refl
 
 -- the line at a place
-abbrev line_here : (nodes answer : List ℕ) → List ℕ → ℕ → Line
-line_here nodes answer row i = record { cells = cells_at (length row) answer i; if_so = cond_at nodes (node_at (length row) answer i) }
+abbrev line_here : Sought → ℕ → Line
+line_here q i = record { cells = cells_at (length q.row.now) q.answer.now i; if_so = cond_at q.nodes.now (node_at (length q.row.now) q.answer.now i) }
 
-pub from_pass : (nodes answer : List ℕ) (n : ℕ) (row : List ℕ) (i : ℕ) → 0 < i → i ≤ n → agrees (cells_at (length row) answer (i - 1)) row ≡ false →
-    deciding_from nodes answer n row (i - 1) ≡ deciding_from nodes answer n row i
+pub from_pass : (q : Sought) (i : ℕ) → 0 < i → i ≤ q.lines → agrees (cells_at (length q.row.now) q.answer.now (i - 1)) q.row.now ≡ false →
+    deciding_from q (i - 1) ≡ deciding_from q i
 unfolding deciding
-from_pass nodes answer n row i p l h = rw (lines_back nodes n (length row) i answer (drop ((i - 1) * line_size (length row)) answer) p l refl, h) refl
+from_pass q i p l h = rw (lines_back q.nodes.now q.lines (length q.row.now) i q.answer.now (drop ((i - 1) * line_size (length q.row.now)) q.answer.now) p l refl, h) refl
 
-pub from_more : (nodes answer : List ℕ) (n : ℕ) (row : List ℕ) (i : ℕ) → 0 < i → i ≤ n → agrees (cells_at (length row) answer (i - 1)) row ≡ true →
-    deciding_from nodes answer n row (i - 1) ≡ line_here nodes answer row (i - 1) ∷ deciding_from nodes answer n row i
+pub from_more : (q : Sought) (i : ℕ) → 0 < i → i ≤ q.lines → agrees (cells_at (length q.row.now) q.answer.now (i - 1)) q.row.now ≡ true →
+    deciding_from q (i - 1) ≡ line_here q (i - 1) ∷ deciding_from q i
 unfolding deciding
-from_more nodes answer n row i p l h = rw (lines_back nodes n (length row) i answer (drop ((i - 1) * line_size (length row)) answer) p l refl, h) refl
+from_more q i p l h = rw (lines_back q.nodes.now q.lines (length q.row.now) i q.answer.now (drop ((i - 1) * line_size (length q.row.now)) q.answer.now) p l refl, h) refl
 
-pub record Showing (xs ys answer row places : List ℕ) (n i r : ℕ) : Type 0 where
+pub record Showing (xs ys : List ℕ) (q : Sought) (places : List ℕ) (i r : ℕ) : Type 0 where
   pub grown : Grown xs ys
   pub stands : r < count ys
-  pub few : (nodes : List ℕ) → count ys ≤ count xs + nodes_for (length row) (deciding_from nodes answer n row i)
-  pub means : (nodes : List ℕ) → Placed xs nodes answer row places n →
-      Means xs ys (nodes_for (length row) (deciding_from nodes answer n row i)) (row_cells (deciding_from nodes answer n row i) row) (shows (deciding_from nodes answer n row i) row) r
+  pub few : count ys ≤ count xs + nodes_for (length q.row.now) (deciding_from q i)
+  pub means : Placed xs q places →
+      Means xs ys (nodes_for (length q.row.now) (deciding_from q i)) (row_cells (deciding_from q i) q.row.now) (shows (deciding_from q i) q.row.now) r
 
-pub showing_none : (xs answer row places : List ℕ) (n : ℕ) → Begun xs → Showing xs xs answer row places n n 1
+pub showing_none : (xs : List ℕ) (q : Sought) (places : List ℕ) → Begun xs → Showing xs xs q places q.lines 1
 unfolding shows cells_in_lines
-showing_none xs answer row places n b =
+showing_none xs q places b =
     let m : Means xs xs 0 [] never 1 = means_never xs b in
     record {
       grown = m.grown;
       stands = m.stands;
-      few = λ nodes. omega arith;
-      means = λ nodes p. rw (from_none nodes answer n row) (record {
+      few = rw (from_none q) (omega arith);
+      means = λ p. rw (from_none q) (record {
         grown = m.grown;
         few = omega arith;
         stands = m.stands;
@@ -153,13 +155,13 @@ showing_none xs answer row places n b =
       });
     }
 
-pub showing_pass : (xs ys answer row places : List ℕ) (n i r : ℕ) → 0 < i → i ≤ n → agrees (cells_at (length row) answer (i - 1)) row ≡ false →
-    Showing xs ys answer row places n i r → Showing xs ys answer row places n (i - 1) r
-showing_pass xs ys answer row places n i r p l h s = record {
+pub showing_pass : (xs ys : List ℕ) (q : Sought) (places : List ℕ) (i r : ℕ) → 0 < i → i ≤ q.lines → agrees (cells_at (length q.row.now) q.answer.now (i - 1)) q.row.now ≡ false →
+    Showing xs ys q places i r → Showing xs ys q places (i - 1) r
+showing_pass xs ys q places i r p l h s = record {
   grown = s.grown;
   stands = s.stands;
-  few = λ nodes. rw (from_pass nodes answer n row i p l h) (s.few nodes);
-  means = λ nodes o. rw (from_pass nodes answer n row i p l h) (s.means nodes o);
+  few = rw (from_pass q i p l h) s.few;
+  means = λ o. rw (from_pass q i p l h) (s.means o);
 }
 
 -- the cells for a line and those for the others
@@ -171,25 +173,25 @@ covers_line ns gs cs ds es i =
       covers_both ns gs ds es (covers_right ns gs cs ds x) y,
     )
 
-pub showing_more : (xs ys zs us ts answer row places : List ℕ) (n i r e f d : ℕ) → 0 < i → i ≤ n → agrees (cells_at (length row) answer (i - 1)) row ≡ true →
-    get_or places (node_at (length row) answer (i - 1)) 0 < count xs → Showing xs ys answer row places n i r →
-    Means ys zs (2 * length row) (cells_at (length row) answer (i - 1) ++ map known row) (gives (cells_at (length row) answer (i - 1)) row) e →
-    Built zs us (Both (get_or places (node_at (length row) answer (i - 1)) 0) e) f → Built us ts (Either f r) d →
-    Showing xs ts answer row places n (i - 1) d
+pub showing_more : (xs ys zs us ts : List ℕ) (q : Sought) (places : List ℕ) (i r e f d : ℕ) → 0 < i → i ≤ q.lines → agrees (cells_at (length q.row.now) q.answer.now (i - 1)) q.row.now ≡ true →
+    get_or places (node_at (length q.row.now) q.answer.now (i - 1)) 0 < count xs → Showing xs ys q places i r →
+    Means ys zs (2 * length q.row.now) (cells_at (length q.row.now) q.answer.now (i - 1) ++ map known q.row.now) (gives (cells_at (length q.row.now) q.answer.now (i - 1)) q.row.now) e →
+    Built zs us (Both (get_or places (node_at (length q.row.now) q.answer.now (i - 1)) 0) e) f → Built us ts (Either f r) d →
+    Showing xs ts q places (i - 1) d
 unfolding shows cells_in_lines
-showing_more xs ys zs us ts answer row places n i r e f d p l h k s g b o = record {
+showing_more xs ys zs us ts q places i r e f d p l h k s g b o = record {
   grown = grown_trans xs ys ts s.grown (grown_trans ys zs ts g.grown (grown_trans zs us ts b.grown o.grown));
   stands = o.stands;
-  few = λ nodes. rw (from_more nodes answer n row i p l h) (omega (arith, s.few nodes, g.few, b.few, o.few, suc-mul (length (deciding_from nodes answer n row i)) (2 * length row + 2)));
-  means = λ nodes q.
-      let z : nodes_for (length row) (line_here nodes answer row (i - 1) ∷ deciding_from nodes answer n row i) ≡ nodes_for (length row) (deciding_from nodes answer n row i) + (2 * length row + 2) =
-      suc-mul (length (deciding_from nodes answer n row i)) (2 * length row + 2) in
-      rw (from_more nodes answer n row i p l h, z)
-      (means_line xs ys zs us ts (nodes_for (length row) (deciding_from nodes answer n row i)) (2 * length row) (row_cells (deciding_from nodes answer n row i) row)
-      (cells_at (length row) answer (i - 1) ++ map known row) (shows (deciding_from nodes answer n row i) row) (gives (cells_at (length row) answer (i - 1)) row) (cond_at nodes (node_at (length row) answer (i - 1)))
-      r (get_or places (node_at (length row) answer (i - 1)) 0) e f d (s.means nodes q) k (q (i - 1) (omega arith) h) g b o
-      (row_cells (line_here nodes answer row (i - 1) ∷ deciding_from nodes answer n row i) row)
-      (λ ns gs j. covers_line ns gs (cells_at (length row) answer (i - 1)) (cells_in_lines (deciding_from nodes answer n row i)) (map known row) j));
+  few = rw (from_more q i p l h) (omega (arith, s.few, g.few, b.few, o.few, suc-mul (length (deciding_from q i)) (2 * length q.row.now + 2)));
+  means = λ o₂.
+      let z : nodes_for (length q.row.now) (line_here q (i - 1) ∷ deciding_from q i) ≡ nodes_for (length q.row.now) (deciding_from q i) + (2 * length q.row.now + 2) =
+      suc-mul (length (deciding_from q i)) (2 * length q.row.now + 2) in
+      rw (from_more q i p l h, z)
+      (means_line xs ys zs us ts (nodes_for (length q.row.now) (deciding_from q i)) (2 * length q.row.now) (row_cells (deciding_from q i) q.row.now)
+      (cells_at (length q.row.now) q.answer.now (i - 1) ++ map known q.row.now) (shows (deciding_from q i) q.row.now) (gives (cells_at (length q.row.now) q.answer.now (i - 1)) q.row.now) (cond_at q.nodes.now (node_at (length q.row.now) q.answer.now (i - 1)))
+      r (get_or places (node_at (length q.row.now) q.answer.now (i - 1)) 0) e f d (s.means o₂) k (o₂ (i - 1) (omega arith) h) g b o
+      (row_cells (line_here q (i - 1) ∷ deciding_from q i) q.row.now)
+      (λ ns gs j. covers_line ns gs (cells_at (length q.row.now) q.answer.now (i - 1)) (cells_in_lines (deciding_from q i)) (map known q.row.now) j));
 }
 
 -- fewer lines decide among fewer
@@ -205,9 +207,9 @@ deciding_drop (l ∷ ls) row (suc i) = go (deciding_drop ls row i) (agrees l.cel
     go h false = h
 
 -- where a line decides, there is room for what it takes
-pub room_here : (nodes answer : List ℕ) (n : ℕ) (row : List ℕ) (i : ℕ) → 0 < i → i ≤ n → agrees (cells_at (length row) answer (i - 1)) row ≡ true →
-    nodes_for (length row) (deciding_from nodes answer n row i) + (2 * length row + 2) ≤ nodes_for (length row) (deciding_in nodes answer n row)
-room_here nodes answer n row i p l h =
-    let e : length (deciding_from nodes answer n row (i - 1)) ≡ suc (length (deciding_from nodes answer n row i)) = ap length (from_more nodes answer n row i p l h) in
-    let m : suc (length (deciding_from nodes answer n row i)) ≤ length (deciding_in nodes answer n row) = omega (arith, deciding_drop (lines_in nodes n (length row) answer) row (i - 1)) in
-    omega (arith, mul-le-mul_right (2 * length row + 2) m, suc-mul (length (deciding_from nodes answer n row i)) (2 * length row + 2))
+pub room_here : (q : Sought) (i : ℕ) → 0 < i → i ≤ q.lines → agrees (cells_at (length q.row.now) q.answer.now (i - 1)) q.row.now ≡ true →
+    nodes_for (length q.row.now) (deciding_from q i) + (2 * length q.row.now + 2) ≤ nodes_for (length q.row.now) (deciding_of q)
+room_here q i p l h =
+    let e : length (deciding_from q (i - 1)) ≡ suc (length (deciding_from q i)) = ap length (from_more q i p l h) in
+    let m : suc (length (deciding_from q i)) ≤ length (deciding_of q) = omega (arith, deciding_drop (lines_of q) q.row.now (i - 1)) in
+    omega (arith, mul-le-mul_right (2 * length q.row.now + 2) m, suc-mul (length (deciding_from q i)) (2 * length q.row.now + 2))

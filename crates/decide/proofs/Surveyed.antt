@@ -212,10 +212,12 @@ module _ (q : Sought) (blank ms₁ ms : List Bool) (s₀ s₁ s : Notes)
 
   pub surveyed : Surveyed q ms s
   surveyed = record {
-    known = known_marked;
-    lines = λ k l b y. kept (node_at (length row) q.answer.now k) (m.lines k l b y);
-    closed = closed;
-    covered = all_covered;
+    reached = record {
+      known = known_marked;
+      lines = λ k l b y. kept (node_at (length row) q.answer.now k) (m.lines k l b y);
+      closed = closed;
+      covered = all_covered;
+    };
     noted = noted_like listed (cells_for q) s
         (λ k. listed_gaps k ∙ ap (λ t. has t k) (sym (gaps_met_are q)))
         (λ n. listed_numbers n ∙ ap (λ t. has t n) (sym (numbers_met_are q)))

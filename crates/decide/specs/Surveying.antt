@@ -2,8 +2,8 @@
 --
 --   numbers_for q, gaps_for q    the numbers and the gaps that count for a row that is looked for
 --   cells_for q                the cells that name them: those of what is known, of the lines that decide the row, and the row's numbers
---   Surveyed q ms s            what is known and the lines that decide the row are marked in ms, with all that they reach, and s has
---                              noted these cells
+--   Reached q ms               what is known and the lines that decide the row are marked in ms, with all that they reach
+--   Surveyed q ms s            and s has noted these cells
 --   FewNamed s names           the gaps that s has noted have these names, at most six, and the numbers are at most eight
 use Rattle.std.specs.Prelude.{◌≡◌, ℕ, ◌≤◌, Bool, true, List, ◌++◌, map, length}
 use Rattle.condition.specs.Cond.{Cell, known, Cond, numbers_in, gaps_in, has}
@@ -33,11 +33,14 @@ gaps_for q = gaps_met (known_of q) (deciding_of q)
 abbrev pub cells_for : Sought → List Cell
 cells_for q = named_cells (known_of q) (deciding_of q) ++ map known q.row.now
 
-pub record Surveyed (q : Sought) (ms : List Bool) (s : Notes) : Type 0 where
+pub record Reached (q : Sought) (ms : List Bool) : Type 0 where
   pub known : marked ms q.known ≡ true
   pub lines : LinesMarked q.answer.now q.row.now 0 q.lines ms
   pub closed : Closed q.nodes.now (count q.nodes.now) ms
   pub covered : AllCovered (numbers_for q) (gaps_for q) q.nodes.now (count q.nodes.now) ms
+
+pub record Surveyed (q : Sought) (ms : List Bool) (s : Notes) : Type 0 where
+  pub reached : Reached q ms
   pub noted : Noted (cells_for q) s
   -- the marked nodes and the row name all numbers
   pub numbers : (n : ℕ) → has (numbers_in (marked_cells q.nodes.now ms (count q.nodes.now)) ++ q.row.now) n ≡ has (numbers_for q) n

@@ -112,15 +112,7 @@ fn settle_row(
     ensures refused { IfErr result (λ e. e ≡ NoMemory) }
     ensures decided { IfOk result (Decided (known_of sought.now) (lines_of sought.now) sought.now.row.now) }
 {
-    let cone = build_cone(
-        heap,
-        sought.nodes,
-        sought.known,
-        sought.answer,
-        sought.lines,
-        sought.row,
-        marks,
-    )?;
+    let cone = build_cone(heap, sought, marks)?;
     let count = cone.nodes[0] as usize;
     let mut values = vec![in heap; Rails::default(); count]?;
     let found = try_all(

@@ -1,37 +1,37 @@
 // The condition that an answer shows a row, built in a cone.
-ghost use Rattle.std.specs.Prelude.{◌≡◌, ℕ, ◌+◌, ◌*◌, ◌<◌, ◌≤◌, true, List, ◌++◌, map, length, drop, slice_index};
+ghost use Rattle.std.specs.Prelude.{◌≡◌, ℕ, ◌*◌, ◌<◌, ◌≤◌, true, ◌++◌, map, length, drop, slice_index};
 ghost use Rattle.condition.specs.Cond.{known};
 ghost use Rattle.condition.specs.Store.{count};
-ghost use Rattle.list.specs.Layout.{line_size, cells_in, cells_fit, lines_fit};
+ghost use Rattle.list.specs.Layout.{line_size, cells_in, cells_fit};
 ghost use Rattle.decide.specs.Building.{Same};
 ghost use Rattle.decide.specs.Deciding.{gives, shows, agrees};
 ghost use Rattle.decide.specs.Folding.{Room};
 ghost use Rattle.decide.specs.Matching.{cells_at, node_at};
-ghost use Rattle.decide.specs.Showing.{Means, Placed, row_cells, nodes_for, deciding_in};
+ghost use Rattle.decide.specs.Showing.{Means, Placed, row_cells, nodes_for};
+ghost use Rattle.decide.specs.Sought.{deciding_of};
 
 use crate::building::Cone;
 use crate::matching::agrees;
 use crate::simplifying::{ALWAYS, NEVER};
+use crate::sought::Sought;
 use condition::Cell;
 use list::{line_cell, line_node};
 
 impl Cone<'_, '_> {
-    // The place of the condition that one of n lines is there and gives a row; the conditions of the lines stand at the places given
-    // for their nodes.
-    pub(crate) fn show_row(&mut self, answer: &[u64], n: usize, row: &[u64], places: &[u64]) -> u64
-        requires whole { n * line_size (length row.now) ≤ length answer.now }
-        requires cells { lines_fit n (length row.now) answer.now ≡ true }
-        requires placed { (k : ℕ) → k < n → agrees (cells_at (length row.now) answer.now k) row.now ≡ true → (node_at (length row.now) answer.now k < length places.now) × (slice_index places.now (node_at (length row.now) answer.now k) < count self.old.nodes.now) }
-        requires room { (nodes : List ℕ) → Room self.old.nodes.now (nodes_for (length row.now) (deciding_in nodes answer.now n row.now)) }
+    // The place of the condition that a line of the answer is there and gives the row; the conditions of the lines stand at the places
+    // given for their nodes.
+    pub(crate) fn show_row(&mut self, sought: &Sought, places: &[u64]) -> u64
+        requires placed { (k : ℕ) → k < sought.now.lines → agrees (cells_at (length sought.now.row.now) sought.now.answer.now k) sought.now.row.now ≡ true → (node_at (length sought.now.row.now) sought.now.answer.now k < length places.now) × (slice_index places.now (node_at (length sought.now.row.now) sought.now.answer.now k) < count self.old.nodes.now) }
+        requires room { Room self.old.nodes.now (nodes_for (length sought.now.row.now) (deciding_of sought.now)) }
         ensures same { Same self.old self.new }
-        ensures means { (nodes : List ℕ) → Placed self.old.nodes.now nodes answer.now row.now places.now n → Means self.old.nodes.now self.new.nodes.now (nodes_for (length row.now) (deciding_in nodes answer.now n row.now)) (row_cells (deciding_in nodes answer.now n row.now) row.now) (shows (deciding_in nodes answer.now n row.now) row.now) result }
+        ensures means { Placed self.old.nodes.now sought.now places.now → Means self.old.nodes.now self.new.nodes.now (nodes_for (length sought.now.row.now) (deciding_of sought.now)) (row_cells (deciding_of sought.now) sought.now.row.now) (shows (deciding_of sought.now) sought.now.row.now) result }
     {
         let mut shown = NEVER;
-        for i in (0..n).rev() {
-            let line = &answer[i * (1 + 2 * row.len())..];
-            if agrees(line, row) {
+        for i in (0..sought.lines).rev() {
+            let line = sought.line(i);
+            if agrees(line, sought.row) {
                 let condition = places[line_node(line) as usize];
-                let given = self.give_row(line, row);
+                let given = self.give_row(line, sought.row);
                 let here = self.both_of(condition, given);
                 shown = self.either_of(here, shown);
             }
@@ -55,17 +55,18 @@ impl Cone<'_, '_> {
     }
 }
 
-// How many of n lines decide a row.
-pub(crate) fn count_lines(answer: &[u64], n: usize, row: &[u64]) -> usize
-    requires { n * line_size (length row.now) ≤ length answer.now }
-    ensures is { (nodes : List ℕ) → length (deciding_in nodes answer.now n row.now) ≡ result }
-    ensures few { result ≤ n }
-{
-    let mut many = 0;
-    for i in (0..n).rev() {
-        if agrees(&answer[i * (1 + 2 * row.len())..], row) {
-            many += 1;
+impl Sought<'_> {
+    // How many lines decide the row.
+    pub(crate) fn count_lines(&self) -> usize
+        ensures is { length (deciding_of self.now) ≡ result }
+        ensures few { result ≤ self.now.lines }
+    {
+        let mut many = 0;
+        for i in (0..self.lines).rev() {
+            if agrees(self.line(i), self.row) {
+                many += 1;
+            }
         }
+        many
     }
-    many
 }

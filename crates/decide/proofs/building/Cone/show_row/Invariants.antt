@@ -3,4 +3,4 @@ use Rattle.decide.proofs.Meaning.{Showing}
 use Rattle.decide.proofs.building.Cone.show_row.Given as goal
 
 abbrev pub invariant-loop-i : goal.invariant-loop-i
-invariant-loop-i l = record { same : Same l.initial.self l.self; showing : Showing l.initial.self.nodes.now l.self.nodes.now l.answer l.row l.places l.n l.i l.shown }
+invariant-loop-i l = record { same : Same l.initial.self l.self; showing : Showing l.initial.self.nodes.now l.self.nodes.now l.sought l.places l.i l.shown }
