@@ -71,9 +71,6 @@ module _ (task : Task) where
     pub kept : (t : Bool) → is_some (side t met) ≡ false → is_some (side t before) ≡ false
     pub dead : (t : Bool) → is_some (side t met) ≡ false → All (NoneFrom task (depth + 1) t) next → All (NoneFrom task depth t) (take l rows)
 
-  pub none_gathered : (depth : ℕ) (rows : List Row) (before : Met) → ((t : Bool) → Sound task t (side t before)) → Gathered depth rows before 0 [] before
-  none_gathered depth rows before sound = record { begun = All-nil (Begun task (depth + 1)); sound = sound; kept = λ t e. e; dead = λ t e d. All-nil (NoneFrom task depth t) }
-
   module _ (depth : ℕ) (rows : List Row) (before : Met) where
     -- all gaps are settled
     module _ (deep : depth ≡ length (tried task)) (lanes : Rails) (after : Met) (might-is : Meets (tried task) depth rows task.cone.now task.goal lanes)

@@ -2,10 +2,10 @@
 use Rattle.std.proofs.Common.{◌≡◌, ◌≢◌, ℕ, suc, ◌+◌, ◌<◌, ◌≤◌, Bool, true, false, cond as if, ◌||◌, eqb, ltb, ◌⊎◌, List, [], ◌∷◌, ◌++◌, length, get_or, Some, None, Option, sym, refl, ap, ◌∙◌, subst, inl, inr, arith, below_more, length-append}
 use Rattle.std.specs.List.{All, AllPairs, position_or_len, list_any}
 use Rattle.std.specs.Option.{option_map_or}
-use Rattle.std.proofs.lemmas.Bool.{both_ways, cases_eq, eq-eqb, ne_eqb, eqb-true, lt-ltb, le-ltb, or_cases}
+use Rattle.std.proofs.lemmas.Bool.{both_ways, cases_eq, eq-eqb, ne_eqb, eqb-true, lt-ltb, or_cases}
 use Rattle.std.proofs.lemmas.Bool.Decides.{nat_tests}
 use Rattle.std.proofs.lemmas.List.{get_or_default}
-use Rattle.std.proofs.lemmas.List.Elements.{All-nil, All-push}
+use Rattle.std.proofs.lemmas.List.Elements.{All-push}
 use Rattle.std.proofs.lemmas.List.Quantifiers.{position-Some, all_pairs_push}
 use Rattle.std.proofs.lemmas.List.Sums.{position_or_len_is}
 use Rattle.condition.specs.Cond.{has, Within}
@@ -57,9 +57,6 @@ pub record Collected (ks : List ℕ) (n : ℕ) (ns : List ℕ) : Type 0 where
   pub distinct : Distinct ns
   pub all : (i : ℕ) → i < n → has ns (get_or ks i 0) ≡ true
 
-pub none_collected : (ks : List ℕ) → Collected ks 0 []
-none_collected ks = record { few = omega arith; low = All-nil (λ k. k < 64); distinct = λ i j d l m. absurd (omega arith); all = λ i l. absurd (omega arith) }
-
 module _ (ks : List ℕ) (n : ℕ) (ns : List ℕ) (c : Collected ks n ns) where
   pub collected_still : has ns (get_or ks n 0) ≡ true → Collected ks (n + 1) ns
   collected_still h = record { few = omega (arith, c.few); low = c.low; distinct = c.distinct; all = below_more _ _ c.all h }
@@ -84,13 +81,6 @@ same_below k l d = grind (arith, nat_tests)
 module _ (gs : List ℕ) (r : Row) where
   abbrev pub upto : ℕ → Filling
   upto p k = option_map_or (λ q. if (ltb q p) (number_at r q) 0) (place gs k) 0
-
-  pub upto_none : (k : ℕ) → upto 0 k ≡ 0
-  upto_none k = go (place gs k)
-    where
-      go : (o : Option ℕ) → option_map_or (λ q. if (ltb q 0) (number_at r q) 0) o 0 ≡ 0
-      go None = refl
-      go (Some q) = rw (le-ltb q 0 (omega arith)) refl
 
   pub upto_all : (k : ℕ) → upto (length gs) k ≡ filling_of gs r k
   upto_all k = go (place gs k) refl

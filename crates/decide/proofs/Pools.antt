@@ -1,7 +1,5 @@
 -- Numbers to try: the least ones that are not there yet, and what they suffice for.
-use Rattle.std.proofs.Common.{◌≡◌, ℕ, ◌+◌, ◌<◌, ◌≤◌, true, false, ◌⊎◌, List, [], ◌∷◌, ◌++◌, length, get_or, take, MatchOption, unwrap_or, Some, None, Option, sym, ap, ◌∙◌, subst, inl, inr, arith, length-append, take_all}
-use Rattle.std.proofs.Math.Seq.{get_or-append_seam, take-append_seam}
-use Rattle.std.proofs.lemmas.List.{take-append-le, get_or_append_left}
+use Rattle.std.proofs.Common.{◌≡◌, ℕ, ◌+◌, ◌<◌, ◌≤◌, true, false, List, length, get_or, take, MatchOption, unwrap_or, Some, None, Option, sym, ap, ◌∙◌, inl, inr, arith}
 use Rattle.std.proofs.lemmas.Bool.{both_ways, cases_lt}
 use Rattle.condition.specs.Cond.{has, Within}
 use Rattle.evaluate.specs.Filling.{Fresh}
@@ -25,29 +23,6 @@ pub least_found : (ns : List ℕ) (r : Option ℕ) (n : ℕ)
     → MatchOption r ((k : ℕ) → 0 ≤ k → k < length ns → has ns k ≡ true) (λ i. (0 ≤ i) × (i < length ns) × (has ns i ≡ false) × ((k : ℕ) → 0 ≤ k → k < i → has ns k ≡ true)) → n ≡ unwrap_or r (length ns) → LeastOther ns n
 least_found ns None n h e = rw e (least_past ns (λ m l. h m (omega arith) l))
 least_found ns (Some i) n h e = rw e (record { new = h.2; least = λ m l. h.3 m (omega arith) l })
-
--- the numbers that are given and k fresh ones
-pub record Pooled (ns : List ℕ) (k : ℕ) (pool : List ℕ) : Type 0 where
-  pub many : length pool ≡ length ns + k
-  pub given : take (length ns) pool ≡ ns
-  pub fresh : (p : ℕ) → length ns ≤ p → p < length pool → LeastOther (take p pool) (get_or pool p 0)
-
-pub none_pooled : (ns : List ℕ) → Pooled ns 0 ns
-none_pooled ns = record { many = omega arith; given = take_all (length ns) ns (omega arith); fresh = λ p l h. absurd (omega arith) }
-
--- one fresh number more
-pub pooled_more : (ns : List ℕ) (k : ℕ) (pool : List ℕ) (x : ℕ) → Pooled ns k pool → LeastOther pool x → Pooled ns (k + 1) (pool ++ x ∷ [])
-pooled_more ns k pool x p here = record {
-  many = simp length-append (omega (arith, p.many));
-  given = take-append-le (length ns) pool (x ∷ []) (omega (arith, p.many)) ∙ p.given;
-  fresh = λ q l h. by q l (simp length-append at h) (cases_lt q (length pool));
-}
-  where
-    by : (q : ℕ) → length ns ≤ q → q < length pool + 1 → (q < length pool) ⊎ (length pool ≤ q) → LeastOther (take q (pool ++ x ∷ [])) (get_or (pool ++ x ∷ []) q 0)
-    by q l h (inl m) = rw (take-append-le q pool (x ∷ []) (omega arith), get_or_append_left pool (x ∷ []) 0 q m) (p.fresh q l m)
-    by q l h (inr m) =
-        let e : length pool ≡ q = omega arith in
-        subst (λ (n : ℕ). LeastOther (take n (pool ++ x ∷ [])) (get_or (pool ++ x ∷ []) n 0)) e (rw (take-append_seam pool (x ∷ []), get_or-append_seam pool x [] 0) here)
 
 -- the gaps and numbers that a condition names, with fresh ones, are all that is to be tried
 pub set_up : (nodes : List ℕ) (goal : Goal) (ks ns gs pool : List ℕ) → length ns ≤ 8 → Names (goal_of nodes goal true) ks ns → Within ks gs → length pool ≡ length ns + length gs → take (length ns) pool ≡ ns

@@ -1,5 +1,5 @@
 -- One row more of those that go on from a row.
-use Rattle.std.proofs.Common.{◌≡◌, ℕ, ◌+◌, ◌<◌, cond as if, ltb, List, [], ◌∷◌, ◌++◌, length, get_or, sym, refl, ap, ◌∙◌, arith, append_assoc, append-nil, length-append, below_more}
+use Rattle.std.proofs.Common.{◌≡◌, ℕ, ◌+◌, ◌<◌, cond as if, ltb, List, [], ◌∷◌, ◌++◌, length, get_or, ap, ◌∙◌, arith, append_assoc, length-append, below_more}
 use Rattle.std.proofs.Math.Seq.{get_or-append_seam}
 use Rattle.std.proofs.lemmas.List.{get_or_append_left}
 use Rattle.decide.specs.Rows.{GoesOn, blank}
@@ -12,9 +12,6 @@ module _ (pool : List ℕ) (r : Row) (depth n : ℕ) (next : List Row) where
     pub behind : next₁ ≡ next ++ added
     pub many : length added ≡ k
     pub each : (i : ℕ) → i < k → GoesOn r depth (get_or pool i 0) (if (ltb i n) r.used (r.used + 1)) (get_or added i blank)
-
-  pub none_spread : Spread 0 next
-  none_spread = record { added = []; behind = sym (append-nil next); many = refl; each = λ i l. absurd (omega arith) }
 
   pub spread_more : (k : ℕ) (next₁ : List Row) (s : Row) → Spread k next₁ → GoesOn r depth (get_or pool k 0) (if (ltb k n) r.used (r.used + 1)) s → Spread (k + 1) (next₁ ++ s ∷ [])
   spread_more k next₁ s p g = record {
