@@ -31,9 +31,7 @@ pub(crate) fn build_cone(heap: Global, sought: &Sought, marks: &Marks) -> Result
 {
     let count = sought.count();
     let marked = count_marks(marks, count);
-    let Some(size) = cone_size(marked, sought.count_lines(), sought.row.len()) else {
-        return Err(Refusal::NoMemory);
-    };
+    let size = cone_size(marked, sought.count_lines(), sought.row.len()).ok_or(Refusal::NoMemory)?;
     let mut cone = vec![in heap; 0u64; size]?;
     let mut places = vec![in heap; 0u64; count]?;
     let mut index = vec![in heap; 0u64; size / 2 + 1]?;

@@ -384,8 +384,8 @@ fn cut_questions(rt: &HostRuntime) -> io::Result<()> {
 // Sixteen signs, and seventeen.
 fn long_questions(rt: &HostRuntime) -> io::Result<()> {
     let mut signs = [0u64; 102];
-    for i in 0..16usize {
-        signs[6 * i] = 1;
+    for sign in signs[..96].chunks_exact_mut(6) {
+        sign[0] = 1;
     }
     tell(rt, "17 signs", lines(&LISTS, &signs))?;
     tell(rt, "the last 16 of them", lines(&LISTS, &signs[6..]))?;
@@ -400,8 +400,8 @@ fn large_question(rt: &HostRuntime) -> io::Result<()> {
     lists[2] = 64;
     lists[3] = 1;
     let mut signs = [0u64; 90];
-    for i in 0..7usize {
-        signs[6 * i] = 6;
+    for sign in signs[..42].chunks_exact_mut(6) {
+        sign[0] = 6;
     }
     tell(rt, "64 lines eight times joined", lines(&lists, &signs))?;
     match Question::parse(&lists, &signs) {
