@@ -1,6 +1,7 @@
 // Conditions built in a cone out of those that stand there: simplified, and each kept once.
-ghost use Rattle.std.specs.Prelude.{◌<◌, length};
-ghost use Rattle.decide.specs.Folding.{Begun, Tidy};
+ghost use Rattle.std.specs.Prelude.{◌≡◌, ℕ, ◌+◌, ◌*◌, ◌<◌, ◌≤◌, List, length, slice_index};
+ghost use Rattle.condition.specs.Store.{count};
+ghost use Rattle.decide.specs.Folding.{Begun, Tidy, Covered};
 ghost use Rattle.decide.specs.OneWay.{begun_once, tidy_once};
 
 use crate::simplifying::Simple;
@@ -21,29 +22,27 @@ pub struct Cone<'n, 'i> {
     pub ghost indexed: { 0 < length index.now },
 }
 
-impl<'n, 'i> Cone<'n, 'i> {
-    ghost use Rattle.std.specs.Prelude.{◌≡◌, ℕ, ◌+◌, ◌*◌, ◌<◌, ◌≤◌, true, List, length, slice_index};
-    ghost use Rattle.condition.specs.Store.{count, has_name};
+// Makes a store of always and never alone, for a cone to begin with.
+pub fn begin(cone: &mut [u64])
+    requires { 11 ≤ length cone.old }
+    ensures begun { Begun cone.new }
+    ensures count { count cone.new ≡ 2 }
+    ensures tidy { Tidy cone.new }
+    ensures covered { (ns gs : List ℕ) → Covered cone.new ns gs }
+    ensures past { (k : ℕ) → 11 ≤ k → slice_index cone.new k ≡ slice_index cone.old k }
+{
+    cone[0] = 0;
+    add(cone, Node::Always);
+    add(cone, Node::Never);
+}
+
+impl Cone<'_, '_> {
+    ghost use Rattle.std.specs.Prelude.{◌≡◌, true};
+    ghost use Rattle.condition.specs.Store.{has_name};
     ghost use Rattle.condition.specs.Shapes.{cell_of, Named};
     ghost use Rattle.condition.specs.declared.Node.TheVariants.{Equal, Not, Both, Either};
-    ghost use Rattle.decide.specs.Folding.{Covered, Over, Room, Built};
+    ghost use Rattle.decide.specs.Folding.{Over, Room, Built};
     ghost use Rattle.decide.specs.Building.{Same};
-
-    // A cone with always and never alone, in a slice.
-    pub fn begin(nodes: &'n mut [u64], index: &'i mut [u64]) -> Cone<'n, 'i>
-        requires long { 11 ≤ length nodes.old }
-        requires index { 0 < length index.old }
-        ensures same { result.nodes.ghost_name ≡ nodes.entry.ghost_name }
-        ensures count { count result.nodes.now ≡ 2 }
-        ensures covered { (ns gs : List ℕ) → Covered result.nodes.now ns gs }
-        ensures long { length result.nodes.now ≡ length nodes.old }
-        ensures past { (k : ℕ) → 11 ≤ k → slice_index result.nodes.now k ≡ slice_index nodes.old k }
-    {
-        nodes[0] = 0;
-        add(nodes, Node::Always);
-        add(nodes, Node::Never);
-        Cone { nodes, index }
-    }
 
     // The place of a condition that holds where a node over places of the cone does.
     pub fn build(&mut self, node: Node) -> u64

@@ -9,7 +9,7 @@ ghost use Rattle.decide.specs.Showing.{nodes_for};
 ghost use Rattle.decide.specs.Sought.{known_of, deciding_of};
 ghost use Rattle.decide.specs.Surveying.{Reached};
 
-use crate::building::Cone;
+use crate::building::{Cone, begin};
 use crate::marked::Marks;
 use crate::sought::Sought;
 use crate::task::Goal;
@@ -70,7 +70,8 @@ fn fill_cone(
     requires scratch { (count sought.now.nodes.now ≤ length places.old) × (0 < length index.old) }
     ensures { Coned (known_of sought.now) (deciding_of sought.now) sought.now.row.now cone.new result }
 {
-    let mut cone = Cone::begin(cone, index);
+    begin(cone);
+    let mut cone = Cone { nodes: cone, index };
     cone.fold(sought.nodes, sought.nodes[0], marks, places);
     let shows = cone.show_row(sought, places);
     Goal {

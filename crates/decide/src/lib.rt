@@ -32,7 +32,7 @@ mod task;
 mod trying;
 mod words;
 
-pub use building::Cone;
+pub use building::{Cone, begin};
 pub use rowwise::{decide_row, possible, sure};
 
 // How a row stands: in the answer under every filling that fits what is known, under some and not under others, or under none; and

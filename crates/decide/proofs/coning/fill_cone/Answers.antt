@@ -32,7 +32,7 @@ returns c =
     let p = get_or c.fold.new.places c.args.sought.now.known 0 in
     let s : p < count xs = f.stand c.args.sought.now.known c.args.sought.now.stands c.requires.reached.known in
     let v : Covered ys ns gs =
-    m.covered ns gs (f.covered ns gs (c.begin-cone.ensures.covered ns gs) (draws_all ns gs nodes (count nodes) c.args.marks.now (omega arith) c.requires.reached.covered)) (row_met what ls row) in
+    m.covered ns gs (f.covered ns gs (c.begin.ensures.covered ns gs) (draws_all ns gs nodes (count nodes) c.args.marks.now (omega arith) c.requires.reached.covered)) (row_met what ls row) in
     let d : Coned what ls row ys (record { known = p; shows = c.show_row-shows.result }) = record {
       store = m.grown.fits;
       known = λ w. ap (holds w) (grown_cond xs ys m.grown p s) ∙ f.value c.args.sought.now.known c.args.sought.now.stands c.requires.reached.known w;

@@ -2,7 +2,7 @@ use Rattle.std.proofs.Common.{rules, ◌≡◌}
 use Rattle.condition.specs.Store.{count}
 use Rattle.decide.specs.Folding.{Begun}
 use Rattle.decide.proofs.Added.{two_covered}
-use Rattle.decide.proofs.building.Cone.begin.Goals as goal
+use Rattle.decide.proofs.building.begin.Goals as goal
 
 pub returns-clause-covered : goal.returns-clause-covered
 returns-clause-covered c =
