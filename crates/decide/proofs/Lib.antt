@@ -27,3 +27,4 @@ pub mod Gathering
 pub mod Telling
 pub mod Drawn
 pub mod Goals
+pub mod Kept

@@ -7,6 +7,7 @@ use Rattle.decide.specs.Folding.{Built, place_in, renamed}
 use Rattle.decide.specs.Reaching.{marked}
 use Rattle.decide.proofs.Counted.{counted_yes, counted_more}
 use Rattle.decide.proofs.Folded.{folds_past, folds_more}
+use Rattle.decide.proofs.Kept.{same_on}
 use Rattle.decide.proofs.building.Cone.fold.Goals as goal
 use Rattle.decide.proofs.building.Cone.fold.Goals.{then-marks-i, else-marks-i}
 
@@ -27,7 +28,7 @@ loop-i-preserved c =
           let zs = w.build.new.self.nodes.now in
           let b : Built cone.nodes.now zs (renamed (place_in i ps) (decoded nodes i)) w.build.result = subst (λ (k : Node). Built cone.nodes.now zs k w.build.result) e w.build.ensures.built in
           rw (w.places-is, w.self-is) (record {
-            same = w.build.ensures.same ∙ inv.same;
+            same = same_on inv.same w.build.ensures.same;
             folds = folds_more nodes i n marks xs cone.nodes.now ps cone.begun inv.folds c.requires.closed c.loop-i-test.true w.if-marks-i.true (omega (arith, c.requires.stand.0)) m zs w.build.result b (omega (arith, c.requires.places));
             unmarked = λ j h. let ne : j ≢ i = λ q. both_ways (get_or marks j false) h (rw q w.if-marks-i.true) in rw get_or-set_other (inv.unmarked j h);
             past = λ j h. let ne : j ≢ i = omega arith in rw get_or-set_other (inv.past j (omega arith));
