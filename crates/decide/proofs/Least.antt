@@ -1,5 +1,5 @@
 -- Laws of `Least`: the least number of a row, one more number, and how many numbers pass up to the least one.
-use Rattle.std.proofs.Common.{◌≡◌, ℕ, ◌+◌, ◌-◌, ◌<◌, ◌≤◌, min, Bool, true, false, cond as if, ◌&&◌, ◌||◌, eqb, leb, ◌⊎◌, List, [], ◌∷◌, ◌++◌, fold, filter, Some, None, Option, sym, refl, ap, ◌∙◌, inl, inr, ⊎_elim, arith}
+use Rattle.std.proofs.Common.{◌≡◌, ℕ, ◌+◌, ◌-◌, ◌<◌, ◌≤◌, min, Bool, true, false, cond as if, ◌&&◌, ◌||◌, eqb, leb, ◌⊎◌, List, [], ◌∷◌, ◌++◌, fold, filter, Some, None, Option, sym, refl, ap, ◌∙◌, inl, inr, ⊎_elim, arith, unwrap_or}
 use Rattle.std.specs.List.{reduce}
 use Rattle.std.proofs.lemmas.Bool.{cases_lt, cases_Bool, eqb-true, ne_eqb, le-leb, leb-true, and_parts, or_from, or_cases}
 use Rattle.condition.specs.Cond.{numbers_in, has}
@@ -46,6 +46,11 @@ module _ (xs : List ℕ) (low m : ℕ) where
       before = λ k a b. lacks_cons m xs k (λ e. omega arith) (h.before k a (omega arith));
     })
   ]
+
+  -- so it is either way
+  pub least_with : (best : Option ℕ) (x r : ℕ) → low ≤ m → x ≡ unwrap_or best m → r ≡ min x m → Least xs low best → Least (m ∷ xs) low (Some r)
+  least_with None x r l u e h = let f : r ≡ m = omega (arith, u, e) in rw f (least_first l h)
+  least_with (Some y) x r l u e h = least_lower y r l (omega (arith, u, e)) h
 
 -- the least of a list is one of it, and none of it is less
 abbrev pub IsLeast : List ℕ → ℕ → Type 0

@@ -72,8 +72,5 @@ fn lower(best: Option<u64>, number: u64, low: u64) -> Option<u64>
     if number < low {
         return best;
     }
-    match best {
-        None => Some(number),
-        Some(least) => Some(least.min(number)),
-    }
+    Some(best.unwrap_or(number).min(number))
 }

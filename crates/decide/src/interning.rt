@@ -11,7 +11,7 @@ use condition::{Node, add, node_at};
 use std::hash::{BuildHasher, BuildHasherDefault, FoldHasher};
 
 // How many entries of an index are looked at for one node.
-const PROBES: u64 = 8;
+const PROBES: usize = 8;
 
 impl Cone<'_, '_> {
     // The place of a node; it is added where the index does not lead to it.
@@ -38,8 +38,9 @@ impl Cone<'_, '_> {
         ensures { MatchResult result (λ i. StandsAs self.now.nodes.now i node) (λ slot. slot < length self.now.index.now) }
     {
         let hash = BuildHasherDefault::<FoldHasher>::new().hash_one(node);
-        let mut slot = hash as usize % self.index.len();
-        for _ in 0..PROBES {
+        let start = hash as usize % self.index.len();
+        for k in 0..PROBES {
+            let slot = (start + k) % self.index.len();
             let place = self.index[slot];
             if place < 2 {
                 return Err(slot);
@@ -47,13 +48,8 @@ impl Cone<'_, '_> {
             if self.stands_at(place, node) {
                 return Ok(place);
             }
-            slot = if slot + 1 < self.index.len() {
-                slot + 1
-            } else {
-                0
-            };
         }
-        Err(slot)
+        Err(start)
     }
 
     // Whether a node stands at a place behind the first two.

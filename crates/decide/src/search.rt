@@ -95,10 +95,6 @@ fn first(word: Word, rows: &[Row]) -> Option<Row>
     requires { length rows.now ≤ 256 }
     ensures { First word rows.now result }
 {
-    for (l, row) in rows.iter().enumerate() {
-        if word.test(l) {
-            return Some(*row);
-        }
-    }
-    None
+    let lane = (0..rows.len()).find(|l| word.test(*l))?;
+    Some(rows[lane])
 }
