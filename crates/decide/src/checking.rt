@@ -7,9 +7,7 @@ ghost use Rattle.decide.specs.Standing.{whole_lines, answer_told, nine_told, Che
 ghost use Rattle.decide.specs.Surveying.{Surveyed, FewNamed};
 
 use crate::counting::count_numbers;
-use crate::marked::Marks;
-use crate::noting::Notes;
-use crate::sought::Sought;
+use crate::surveying::Survey;
 use arrayvec::ArrayVec;
 use condition::{Refusal, store_count};
 use list::{any_lines_fit, any_lines_named, check_lists, check_named};
@@ -51,20 +49,19 @@ pub(crate) fn check_answer(
 }
 
 // The gaps that decide a row, where they are at most six, and the numbers that decide it at most eight.
-pub(crate) fn check_named_few(
-    sought: &Sought,
-    marks: &Marks,
-    notes: &Notes,
-) -> Result<ArrayVec<u64, 6>, Refusal>
-    ensures refusal { Surveyed sought.now marks.now notes.now → outcome result ≡ nine_told (known_of sought.now) (deciding_of sought.now) sought.now.row.now }
-    ensures value { IfOk result (λ gaps. FewNamed notes.now gaps.items) }
+pub(crate) fn check_named_few(survey: &Survey) -> Result<ArrayVec<u64, 6>, Refusal>
+    requires { Surveyed survey.now.sought survey.now.marks.now survey.now.notes }
+    ensures refusal { outcome result ≡ nine_told (known_of survey.now.sought) (deciding_of survey.now.sought) survey.now.sought.row.now }
+    ensures value { IfOk result (λ gaps. FewNamed survey.now.notes gaps.items) }
 {
+    let notes = &survey.notes;
+    let sought = &survey.sought;
     let gaps = notes.count_gaps();
     if gaps > 6 {
         return Err(Refusal::TooManyGaps(gaps));
     }
     if notes.numbers().len() > 8 {
-        let numbers = count_numbers(&sought.marked(marks), sought.row);
+        let numbers = count_numbers(&sought.marked(survey.marks), sought.row);
         return Err(Refusal::TooManyNumbersAt(64 + numbers));
     }
     Ok(notes.gap_names())

@@ -11,8 +11,8 @@ use crate::checking::{check_answer, check_named_few};
 use crate::coning::build_cone;
 use crate::lanes::Rails;
 use crate::marked::Marks;
-use crate::noting::Notes;
 use crate::sought::Sought;
+use crate::surveying::Survey;
 use crate::trying::try_all;
 use condition::{MOST_NODES, Refusal};
 use std::alloc::Global;
@@ -94,32 +94,26 @@ fn decide_marked(
         lines: lines as usize,
         row,
     };
-    let notes = sought.survey(marks);
-    let gaps = check_named_few(&sought, marks, &notes)?;
-    settle_row(heap, &sought, marks, &notes, &gaps)
+    let survey = sought.survey(marks);
+    let gaps = check_named_few(&survey)?;
+    settle_row(heap, &survey, &gaps)
 }
 
 // How a row stands, once what decides it is surveyed; refused only for want of memory.
-fn settle_row(
-    heap: Global,
-    sought: &Sought,
-    marks: &Marks,
-    notes: &Notes,
-    gaps: &[u64],
-) -> Result<Standing, Refusal>
-    requires surveyed { Surveyed sought.now marks.now notes.now }
-    requires few { FewNamed notes.now gaps.now }
+fn settle_row(heap: Global, survey: &Survey, gaps: &[u64]) -> Result<Standing, Refusal>
+    requires surveyed { Surveyed survey.now.sought survey.now.marks.now survey.now.notes }
+    requires few { FewNamed survey.now.notes gaps.now }
     ensures refused { IfErr result (λ e. e ≡ NoMemory) }
-    ensures decided { IfOk result (Decided (known_of sought.now) (lines_of sought.now) sought.now.row.now) }
+    ensures decided { IfOk result (Decided (known_of survey.now.sought) (lines_of survey.now.sought) survey.now.sought.row.now) }
 {
-    let cone = build_cone(heap, sought, marks)?;
+    let cone = build_cone(heap, &survey.sought, survey.marks)?;
     let count = cone.nodes[0] as usize;
     let mut values = vec![in heap; Rails::default(); count]?;
     let found = try_all(
         cone.nodes.as_slice(),
         cone.goal,
         gaps,
-        notes.numbers(),
+        survey.notes.numbers(),
         values.as_mut_slice(),
     );
     Ok(Standing::of(found.yes.is_some(), found.no.is_some()))

@@ -1,4 +1,5 @@
 // What decides a row: the nodes that are reached, and the gaps and numbers that are named.
+ghost use Rattle.std.specs.Prelude.{◌≡◌};
 ghost use Rattle.decide.specs.Surveying.{Surveyed};
 
 use crate::marked::Marks;
@@ -6,10 +7,19 @@ use crate::noting::Notes;
 use crate::reaching::close;
 use crate::sought::Sought;
 
-impl Sought<'_> {
-    // Marks all that what is known and the lines that decide the row reach, and notes the gaps and numbers that these and the row name.
-    pub(crate) fn survey(&self, marks: &mut Marks) -> Notes
-        ensures { Surveyed self.now marks.new result }
+// What is sought, with the nodes that what decides it reaches, and the gaps and numbers that these and the row name.
+#[derive(Drop)]
+pub(crate) struct Survey<'a, 'm> {
+    pub(crate) sought: Sought<'a>,
+    pub(crate) marks: &'m Marks,
+    pub(crate) notes: Notes,
+}
+
+impl<'a> Sought<'a> {
+    // What decides the row: marks all that what is known and the lines that decide it reach, and notes what is named.
+    pub(crate) fn survey<'m>(self, marks: &'m mut Marks) -> Survey<'a, 'm>
+        ensures sought { result.sought ≡ self.entry }
+        ensures surveyed { Surveyed self.entry result.marks.now result.notes }
     {
         let count = self.count();
         marks[..count].fill(false);
@@ -19,6 +29,10 @@ impl Sought<'_> {
         self.mark_lines(marks, &mut notes);
         close(self.nodes, count, marks);
         notes.note_marked(&self.marked(marks));
-        notes
+        Survey {
+            sought: self,
+            marks,
+            notes,
+        }
     }
 }
