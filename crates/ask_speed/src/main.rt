@@ -2,8 +2,6 @@
 #![tactic(auto)]
 
 use answer::ask;
-use anyhow::anyhow;
-use condition::Refusal;
 use query::Question;
 use std::alloc::{AllocError, Global};
 use std::time::Instant;
@@ -49,48 +47,23 @@ fn run(rt: &HostRuntime) -> anyhow::Result<()> {
     let timed = wants_time(rt)?;
     baptisms(rt, heap)?;
     let mut memory = large(heap)?;
-    let joined = join_with_tests(heap)?;
-    tell(
-        rt,
-        "a join with five tests",
-        &mut memory,
-        joined.as_slice(),
-        timed,
-    )?;
-    let nested = nested_joins(heap)?;
-    tell(
-        rt,
-        "a test of seven nested joins",
-        &mut memory,
-        nested.as_slice(),
-        timed,
-    )?;
-    let one = without(heap, 0, 3, 1)?;
-    tell(
-        rt,
-        "without over one column",
-        &mut memory,
-        one.as_slice(),
-        timed,
-    )?;
-    let two = without(heap, 2, 2, 3)?;
-    tell(
-        rt,
-        "without over two columns",
-        &mut memory,
-        two.as_slice(),
-        timed,
-    )
+    let questions = [
+        ("a join with five tests", join_with_tests(heap)?),
+        ("a test of seven nested joins", nested_joins(heap)?),
+        ("without over one column", without(heap, 0, 3, 1)?),
+        ("without over two columns", without(heap, 2, 2, 3)?),
+    ];
+    for (name, signs) in &questions {
+        tell(rt, name, &mut memory, signs.as_slice(), timed)?;
+    }
+    Ok(())
 }
 
 // Whether the first argument is `time`.
 fn wants_time(rt: &HostRuntime) -> io::Result<bool> {
     let mut args = env::args(rt)?;
     let _ = args.next();
-    match args.next() {
-        Some(word) => Ok(word.as_str() == "time"),
-        None => Ok(false),
-    }
+    Ok(args.next().is_some_and(|word| word.as_str() == "time"))
 }
 
 // The question of the worked example, with its join alone.
@@ -101,10 +74,7 @@ fn baptisms(rt: &HostRuntime, heap: Global) -> anyhow::Result<()> {
         out: vec![in heap; 0u64; 30]?,
     };
     let figures = measure(rt, &mut memory, &MOTHERS, 1)?;
-    let join = match Question::read(&BOOKS, &MOTHERS[12..30]) {
-        Ok(question) => question.cost(),
-        Err(_) => 0,
-    };
+    let join = Question::read(&BOOKS, &MOTHERS[12..30])?.cost();
     let test = figures.cost.saturating_sub(join);
     show(rt, "child and woman", figures)?;
     println!(rt; ", of the cost {join} for the join and {test} for the test")?;
@@ -139,17 +109,14 @@ fn show(rt: &HostRuntime, name: &str, figures: Figures) -> io::Result<()> {
     print!(rt; "{name}: {lines} lines, cost {cost}, {nodes} nodes added")
 }
 
-// Asks a question of the lists several times, each time of a store with one node.
+// Asks a question of the lists several times, each time of a store with one node; a refusal is a fault of this program.
 fn measure(
     rt: &HostRuntime,
     memory: &mut Memory,
     signs: &[u64],
     repeats: u64,
 ) -> anyhow::Result<Figures> {
-    let cost = match Question::read(memory.lists.as_slice(), signs) {
-        Ok(question) => question.cost(),
-        Err(refusal) => return fail(refusal),
-    };
+    let cost = Question::read(memory.lists.as_slice(), signs)?.cost();
     let mut figures = Figures {
         lines: 0,
         cost,
@@ -159,17 +126,13 @@ fn measure(
     for _ in 0..repeats {
         set_count(memory.nodes.as_mut_slice(), 1);
         let start = Instant::now(rt)?;
-        let asked = ask(
+        figures.lines = ask(
             memory.lists.as_slice(),
             signs,
             memory.nodes.as_mut_slice(),
             memory.out.as_mut_slice(),
-        );
+        )?;
         let time = start.elapsed(rt)?.as_nanos();
-        match asked {
-            Ok(lines) => figures.lines = lines,
-            Err(refusal) => return fail(refusal),
-        }
         figures.time = figures.time.min(u64::try_from(time).unwrap_or(u64::MAX));
     }
     let count = memory.nodes.as_slice().first().copied().unwrap_or(0);
@@ -180,15 +143,6 @@ fn measure(
 fn set_count(nodes: &mut [u64], count: u64) {
     if let Some(first) = nodes.first_mut() {
         *first = count;
-    }
-}
-
-// A refusal is a fault of this program.
-fn fail(refusal: Refusal) -> anyhow::Result<Figures> {
-    match refusal {
-        Refusal::BadQuestion(_) => Err(anyhow!("a question can't be read")),
-        Refusal::TooManyLines | Refusal::TooCostly => Err(anyhow!("a question is too large")),
-        _ => Err(anyhow!("a question is refused")),
     }
 }
 

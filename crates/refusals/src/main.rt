@@ -160,7 +160,6 @@ fn run(rt: &HostRuntime) -> anyhow::Result<()> {
     files(rt, rt.alloc())?;
     file_bounds(rt, rt.alloc())?;
     questions(rt)?;
-    columns(rt)?;
     cut_questions(rt)?;
     long_questions(rt)?;
     large_question(rt)?;
@@ -356,19 +355,19 @@ fn lines(lists: &[u64], signs: &[u64]) -> Result<u64, Refusal> {
     Ok(Question::read(lists, signs)?.lines())
 }
 
-// Questions of every kind on the baptisms and marriages.
-fn questions(rt: &HostRuntime) -> io::Result<()> {
-    for (case, signs) in QUESTIONS {
-        tell(rt, case, lines(&LISTS, signs))?;
-    }
-    tell(rt, "of no lists", lines(&[], &MOTHERS))
-}
-
-fn columns(rt: &HostRuntime) -> io::Result<()> {
-    for (case, signs) in COLUMNS {
+// The questions of a table, on the baptisms and marriages.
+fn tell_lines(rt: &HostRuntime, cases: &[(&str, &[u64])]) -> io::Result<()> {
+    for (case, signs) in cases {
         tell(rt, case, lines(&LISTS, signs))?;
     }
     Ok(())
+}
+
+// Questions of every kind, and of every fault in columns and widths.
+fn questions(rt: &HostRuntime) -> io::Result<()> {
+    tell_lines(rt, &QUESTIONS)?;
+    tell(rt, "of no lists", lines(&[], &MOTHERS))?;
+    tell_lines(rt, &COLUMNS)
 }
 
 // A question cut at every length.

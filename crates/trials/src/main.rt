@@ -207,13 +207,13 @@ fn put_sign(signs: &mut Vec<u64>, kind: u64, a: u64, b: u64, c: u64) -> Result<(
 // Asks, and tries the answer under every filling; a case that does not agree is shown whole.
 fn trial(rt: &HostRuntime, heap: Global, case: &Case, score: &mut Score) -> anyhow::Result<()> {
     let question = match Question::read(case.lists.as_slice(), case.signs.as_slice()) {
-        Ok(question) => question,
-        Err(refusal) => return not_read(rt, case, refusal, score),
+        Ok(question) if question.lines().saturating_mul(question.cost()) <= MOST_WORK => question,
+        Ok(_) | Err(Refusal::TooManyLines | Refusal::TooCostly) => {
+            score.too_large = score.too_large.saturating_add(1);
+            return Ok(());
+        }
+        Err(refusal) => return fail(rt, case, "refused", refusal.told().0),
     };
-    if question.lines().saturating_mul(question.cost()) > MOST_WORK {
-        score.too_large = score.too_large.saturating_add(1);
-        return Ok(());
-    }
     let mut nodes = with_room(heap, case.nodes.as_slice(), question.cost())?;
     let mut out = vec![in heap; 0u64; question.lines().min(4096) as usize * 5]?;
     if let Err(refusal) = ask(
@@ -245,22 +245,6 @@ fn trial(rt: &HostRuntime, heap: Global, case: &Case, score: &mut Score) -> anyh
     score.answered = score.answered.saturating_add(1);
     count_kinds(case.signs.as_slice(), score);
     Ok(())
-}
-
-// A question that can't be read is a fault of the trial, unless it is too large.
-fn not_read(
-    rt: &HostRuntime,
-    case: &Case,
-    refusal: Refusal,
-    score: &mut Score,
-) -> anyhow::Result<()> {
-    match refusal {
-        Refusal::TooManyLines | Refusal::TooCostly => {
-            score.too_large = score.too_large.saturating_add(1);
-            Ok(())
-        }
-        _ => fail(rt, case, "refused", refusal.told().0),
-    }
 }
 
 // The nodes, with room behind them for as many as asking may add.
