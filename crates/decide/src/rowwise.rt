@@ -10,7 +10,6 @@ use crate::Standing;
 use crate::checking::{check_answer, check_named_few};
 use crate::coning::build_cone;
 use crate::lanes::Rails;
-use crate::marked::Marks;
 use crate::sought::Sought;
 use crate::surveying::Survey;
 use crate::trying::try_all;
@@ -31,8 +30,21 @@ pub fn decide_row(
     ensures refusal { DecideTold lists.now nodes.now answer.now lines width row.now result }
     ensures decided { IfOk result (Decided (known_in nodes.now lists.now) (lines_in nodes.now lines width answer.now) row.now) }
 {
+    check_answer(lists, nodes, answer, lines, width)?;
+    if row.len() as u64 != width {
+        return Err(Refusal::WrongWidth(row.len() as u64));
+    }
+    let sought = Sought {
+        nodes,
+        known: lists[1],
+        answer,
+        lines: lines as usize,
+        row,
+    };
     let mut marks = [false; MOST_NODES as usize];
-    decide_marked(heap, lists, nodes, answer, lines, width, row, &mut marks)
+    let survey = sought.survey(&mut marks);
+    let gaps = check_named_few(&survey)?;
+    settle_row(heap, &survey, &gaps)
 }
 
 // Whether a row is sure: in the answer under every filling that fits what is known.
@@ -67,36 +79,6 @@ pub fn possible(
 {
     let standing = decide_row(heap, lists, nodes, answer, lines, width, row)?;
     Ok(standing.is_possible())
-}
-
-// How a row stands, with memory for a mark of each node.
-fn decide_marked(
-    heap: Global,
-    lists: &[u64],
-    nodes: &[u64],
-    answer: &[u64],
-    lines: u64,
-    width: u64,
-    row: &[u64],
-    marks: &mut Marks,
-) -> Result<Standing, Refusal>
-    ensures refusal { DecideTold lists.now nodes.now answer.now lines width row.now result }
-    ensures decided { IfOk result (Decided (known_in nodes.now lists.now) (lines_in nodes.now lines width answer.now) row.now) }
-{
-    check_answer(lists, nodes, answer, lines, width)?;
-    if row.len() as u64 != width {
-        return Err(Refusal::WrongWidth(row.len() as u64));
-    }
-    let sought = Sought {
-        nodes,
-        known: lists[1],
-        answer,
-        lines: lines as usize,
-        row,
-    };
-    let survey = sought.survey(marks);
-    let gaps = check_named_few(&survey)?;
-    settle_row(heap, &survey, &gaps)
 }
 
 // How a row stands, once what decides it is surveyed; refused only for want of memory.
