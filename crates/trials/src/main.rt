@@ -206,7 +206,8 @@ fn put_sign(signs: &mut Vec<u64>, kind: u64, a: u64, b: u64, c: u64) -> Result<(
 
 // Asks, and tries the answer under every filling; a case that does not agree is shown whole.
 fn trial(rt: &HostRuntime, heap: Global, case: &Case, score: &mut Score) -> anyhow::Result<()> {
-    let question = match Question::read(case.lists.as_slice(), case.signs.as_slice()) {
+    let (lists, signs) = (case.lists.as_slice(), case.signs.as_slice());
+    let question = match Question::read(lists, signs) {
         Ok(question) if question.lines().saturating_mul(question.cost()) <= MOST_WORK => question,
         Ok(_) | Err(Refusal::TooManyLines | Refusal::TooCostly) => {
             score.too_large = score.too_large.saturating_add(1);
@@ -216,12 +217,7 @@ fn trial(rt: &HostRuntime, heap: Global, case: &Case, score: &mut Score) -> anyh
     };
     let mut nodes = with_room(heap, case.nodes.as_slice(), question.cost())?;
     let mut out = vec![in heap; 0u64; question.lines().min(4096) as usize * 5]?;
-    if let Err(refusal) = ask(
-        case.lists.as_slice(),
-        case.signs.as_slice(),
-        nodes.as_mut_slice(),
-        out.as_mut_slice(),
-    ) {
+    if let Err(refusal) = ask(lists, signs, nodes.as_mut_slice(), out.as_mut_slice()) {
         return fail(rt, case, "refused", refusal.told().0);
     }
     for f in 0..FILLINGS {
@@ -243,7 +239,7 @@ fn trial(rt: &HostRuntime, heap: Global, case: &Case, score: &mut Score) -> anyh
         }
     }
     score.answered = score.answered.saturating_add(1);
-    count_kinds(case.signs.as_slice(), score);
+    count_kinds(signs, score);
     Ok(())
 }
 
