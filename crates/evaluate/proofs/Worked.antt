@@ -1,5 +1,6 @@
 -- Nodes and what they come to: what a node says of those before it is its condition.
-use Rattle.std.proofs.Common.{◌≡◌, ℕ, ◌<◌, ◌≤◌, Bool, false, not, List, ◌++◌, length, get_or, take, sym, refl, ap, ◌∙◌}
+use Rattle.std.proofs.Common.{◌≡◌, ℕ, ◌<◌, ◌≤◌, Bool, false, not, List, ◌++◌, length, get_or, take, sym, refl, ap, ◌∙◌, inl, inr}
+use Rattle.std.proofs.lemmas.Bool.{cases_lt, lt-ltb, le-ltb}
 use Rattle.std.proofs.lemmas.List.{get_or_read, get_or-take, get_or_append_left}
 use Rattle.condition.specs.Cond.{Cond}
 use Rattle.condition.specs.Store.{earlier, count, cond_at}
@@ -14,6 +15,13 @@ use Rattle.evaluate.specs.Values.{value_of}
 
 pub says_itself : (nodes : List ℕ) (i : ℕ) (n : Node) → i < count nodes → n ≡ decoded nodes i → node_of n (earlier i (cond_at nodes)) ≡ cond_at nodes i
 says_itself nodes i n l e = ap (λ t. node_of t (earlier i (cond_at nodes))) e ∙ sym (at_decoded nodes i l)
+
+-- behind the last node all of them are earlier
+pub earlier_all : (nodes : List ℕ) (p : ℕ) → earlier (count nodes) (cond_at nodes) p ≡ cond_at nodes p
+earlier_all nodes p = elim (cases_lt p (count nodes)) [
+  | inl l ↦ rw (lt-ltb p (count nodes) l) refl
+  | inr l ↦ rw (le-ltb p (count nodes) l) (sym (at_past nodes p l))
+]
 
 pub by_node : (v : Filling) (n : Node) → Named n → (bs : ℕ → Bool) (go : ℕ → Cond) → ((j : ℕ) → bs j ≡ holds v (go j)) → value_of v n bs ≡ holds v (node_of n go)
 unfolding holds

@@ -12,7 +12,7 @@ use condition::Cell;
 mod sense;
 mod values;
 
-pub use sense::{Sense, work_out};
+pub use sense::{Sense, before, work_out};
 pub use values::holds_at;
 
 // A number for each gap.
@@ -46,11 +46,7 @@ impl Filling {
     pub fn number(&self, gap: u64) -> u64
         ensures { result ≡ numbers_of self.now gap }
     {
-        if gap < 64 {
-            self.numbers[gap as usize]
-        } else {
-            0
-        }
+        self.numbers.get(gap as usize).copied().unwrap_or(0)
     }
 
     // The number of a cell.

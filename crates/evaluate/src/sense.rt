@@ -68,8 +68,8 @@ fn value<S: Sense>(sense: &S, node: Node, values: &[S::Value], i: usize) -> S::V
     }
 }
 
-// What an earlier node than i comes to; others read as never.
-fn before<S: Sense>(sense: &S, values: &[S::Value], i: usize, j: u64) -> S::Value
+// What an earlier node than i comes to, from the values of the nodes before i; others read as never.
+pub fn before<S: Sense>(sense: &S, values: &[S::Value], i: usize, j: u64) -> S::Value
     requires { i ≤ length values.now }
     ensures { (go : ℕ → Cond) → ((k : ℕ) → k < i → (x : S.Value) → S.means sense.now (slice_index_or values.now k x) (go k)) → S.means sense.now result (earlier i go j) }
 {
