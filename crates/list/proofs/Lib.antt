@@ -5,3 +5,4 @@ pub mod Stepping
 pub mod Telling
 pub mod Walking
 pub mod Reading
+pub mod Lined

@@ -1,9 +1,8 @@
 -- Loops over cells, lines and lists: what is left, one step on and at the end.
-use Rattle.std.proofs.Common.{◌≡◌, ℕ, zero, suc, ◌+◌, ◌-◌, ◌*◌, ◌<◌, ◌≤◌, Bool, true, false, ltb, List, length, get_or, take, drop, refl, suc-mul, arith, length-drop}
-use Rattle.std.specs.List.{list_all, range_with_len}
+use Rattle.std.proofs.Common.{◌≡◌, ℕ, zero, suc, ◌+◌, ◌-◌, ◌*◌, ◌<◌, ◌≤◌, Bool, true, false, List, length, take, drop, refl, suc-mul, arith, length-drop}
 use Rattle.std.proofs.lemmas.Nat.{mul-le}
-use Rattle.std.proofs.lemmas.List.{get_or-drop, drop-drop, take_rest}
-use Rattle.list.specs.Layout.{line_size, list_size, cell_fits, cells_fit, lines_fit, lines_named, passing, AtEach}
+use Rattle.std.proofs.lemmas.List.{take_rest}
+use Rattle.list.specs.Layout.{line_size, list_size, passing, AtEach}
 
 -- one of n is left fewer
 pub left_step : (n i : ℕ) → i < n → n - i ≡ suc (n - (i + 1))
@@ -21,27 +20,6 @@ line_next i s = let e : i + 1 ≡ suc i = omega arith in rw e (suc-mul i s)
 -- a line takes at most nine numbers
 pub line_small : (n w : ℕ) → n ≤ 64 → w ≤ 4 → n * line_size w ≤ 576
 line_small n w a b = mul-le n (line_size w) 64 9 a (omega arith)
-
--- a test of each cell, or of each line, by its place
-pub each_cell_fits : (w a : ℕ) (xs : List ℕ) → list_all (λ i. cell_fits (get_or xs (2 * i) 0) (get_or xs (2 * i + 1) 0)) (range_with_len a w) ≡ cells_fit w (drop (2 * a) xs)
-unfolding cells_fit
-each_cell_fits zero a xs = refl
-each_cell_fits (suc w) a xs =
-    let e : 2 * a + 0 ≡ 2 * a = omega arith in let f : 2 * a + 2 ≡ 2 * (a + 1) = omega arith in
-    rw (get_or-drop (2 * a) xs 0 0, get_or-drop (2 * a) xs 1 0, drop-drop 2 (2 * a) xs, e, f, each_cell_fits w (a + 1) xs) refl
-
-pub each_line_fits : (n w i : ℕ) (xs : List ℕ) → list_all (λ k. cells_fit w (drop (k * line_size w + 1) xs)) (range_with_len i n) ≡ lines_fit n w (drop (i * line_size w) xs)
-unfolding lines_fit
-each_line_fits zero w i xs = refl
-each_line_fits (suc n) w i xs =
-    rw (drop-drop 1 (i * line_size w) xs, drop-drop (line_size w) (i * line_size w) xs, ← line_next i (line_size w), each_line_fits n w (i + 1) xs) refl
-
-pub each_line_named : (c n w i : ℕ) (xs : List ℕ) → list_all (λ k. ltb (get_or xs (k * line_size w) 0) c) (range_with_len i n) ≡ lines_named c n w (drop (i * line_size w) xs)
-unfolding lines_named
-each_line_named c zero w i xs = refl
-each_line_named c (suc n) w i xs =
-    let e : i * line_size w + 0 ≡ i * line_size w = omega arith in
-    rw (get_or-drop (i * line_size w) xs 0 0, drop-drop (line_size w) (i * line_size w) xs, ← line_next i (line_size w), e, each_line_named c n w (i + 1) xs) refl
 
 -- a part from a on, as `&xs[a..]` is read
 pub part_long : (xs : List ℕ) (a s : ℕ) → a + s ≤ length xs → s ≤ length (take (length xs - a) (drop a xs))

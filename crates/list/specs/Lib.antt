@@ -2,3 +2,4 @@ pub mod Lists
 pub mod Layout
 pub mod Bounds
 pub mod Shapes
+pub mod Lines

@@ -9,7 +9,7 @@ ghost use Rattle.list.specs.Lists.{fill_cells, filled};
 ghost use Rattle.list.specs.Layout.{line_size, cells_in, lines_in, all_in, lines_named, check_told};
 ghost use Rattle.list.specs.Shapes.{rows_of};
 
-use crate::{Shape, Shapes, check, line, line_cell, line_node};
+use crate::{Line, Lines, Shape, Shapes, check};
 use condition::Refusal;
 use evaluate::{Filling, work_out};
 use std::alloc::Global;
@@ -56,23 +56,21 @@ fn filled_lines(
     ensures { MatchResult result (λ v. (nodes : List ℕ) → WorkedOut (numbers_of filling.now) nodes (length values.now) values.now → rows_of v ≡ filled (numbers_of filling.now) (lines_in nodes shape.lines shape.width (drop shape.at lists.now))) (λ e. e ≡ NoMemory) }
 {
     let mut rows = Vec::new(heap);
-    for i in 0..shape.lines {
-        let line = line(lists, shape, i);
-        if values[line_node(line) as usize] {
-            let row = filled_row(heap, line, shape.width, filling)?;
+    for line in Lines::of(&lists[shape.at..], shape.lines, shape.width) {
+        if values[line.node() as usize] {
+            let row = filled_row(heap, line, filling)?;
             rows.push(row)?;
         }
     }
     Ok(rows)
 }
 
-// The numbers of a line's w cells.
-fn filled_row(heap: Global, line: &[u64], w: usize, filling: &Filling) -> Result<Vec<u64>, Refusal>
-    requires { line_size w ≤ length line.now }
-    ensures { MatchResult result (λ v. v.items ≡ fill_cells (numbers_of filling.now) (cells_in w (drop 1 line.now))) (λ e. e ≡ NoMemory) }
+// The numbers of a line's cells.
+fn filled_row(heap: Global, line: Line, filling: &Filling) -> Result<Vec<u64>, Refusal>
+    ensures { MatchResult result (λ v. v.items ≡ fill_cells (numbers_of filling.now) (cells_in line.entry.width (drop 1 line.entry.numbers.now))) (λ e. e ≡ NoMemory) }
 {
-    let row = (0..w)
-        .map(|a| filling.of(line_cell(line, a)))
+    let row = (0..line.width)
+        .map(|a| filling.of(line.cell(a)))
         .collect(heap)?;
     Ok(row)
 }

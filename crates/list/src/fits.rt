@@ -4,6 +4,7 @@ ghost use Rattle.condition.specs.Refusals.{outcome};
 ghost use Rattle.list.specs.Layout.{line_size, list_size, cell_fits, cells_fit, lines_fit, list_fits, lists_told};
 
 use crate::passing::passing;
+use crate::{Lines, line_size};
 use condition::Refusal;
 
 // How many lists there are, or why they are none.
@@ -45,7 +46,7 @@ fn fitting_size(xs: &[u64]) -> Option<usize>
     }
     let n = lines as usize;
     let w = columns as usize;
-    let size = 2 + n * (1 + 2 * w);
+    let size = 2 + n * line_size(w);
     if size > xs.len() || !any_lines_fit(&xs[2..], n, w) {
         return None;
     }
@@ -57,7 +58,7 @@ pub fn any_lines_fit(xs: &[u64], n: usize, w: usize) -> bool
     requires { n * line_size w ≤ length xs.now }
     ensures { result ≡ lines_fit n w xs.now }
 {
-    (0..n).all(|i| cells_fit(&xs[i * (1 + 2 * w) + 1..], w))
+    Lines::of(xs, n, w).all(|line| cells_fit(line.cells(), line.width))
 }
 
 // Whether w cells are a number or one of the 64 gaps each.
@@ -65,7 +66,8 @@ fn cells_fit(xs: &[u64], w: usize) -> bool
     requires { 2 * w ≤ length xs.now }
     ensures { result ≡ cells_fit w xs.now }
 {
-    (0..w).all(|a| cell_fits(xs[2 * a], xs[2 * a + 1]))
+    let (cells, _) = xs.as_chunks::<2>();
+    cells.iter().take(w).all(|cell| cell_fits(cell[0], cell[1]))
 }
 
 // Whether two numbers stand for a number or one of the 64 gaps.

@@ -19,7 +19,7 @@ mod shapes;
 
 pub use filled::rows;
 pub use fits::{any_lines_fit, check_lists};
-pub use lines::{line, line_cell, line_node};
+pub use lines::{Line, Lines, line_size};
 pub use named::{any_lines_named, check_named};
 pub use shape::Shape;
 pub use shapes::Shapes;

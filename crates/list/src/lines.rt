@@ -1,34 +1,138 @@
-// Lines of a list: a line is the part of the slice that starts with its node, and its cells follow.
-ghost use Rattle.std.specs.Prelude.{◌≡◌, ◌+◌, ◌*◌, ◌<◌, ◌≤◌, length, drop, slice_index};
-ghost use Rattle.condition.specs.Store.{cell_in};
-ghost use Rattle.condition.specs.Shapes.{cell_of};
+// Lines one after the other: each is the part of a slice that starts with the node of its condition, and its cells follow.
+ghost use Rattle.std.specs.Prelude.{◌≡◌, ◌+◌, ◌*◌, ◌^◌, ◌<◌, ◌≤◌, length, drop};
 ghost use Rattle.list.specs.Layout.{line_size};
 
 use crate::Shape;
 use condition::{Cell, cell_at};
 
-// Line i of the list of a shape, and what stands behind it.
-pub fn line<'a>(lists: &'a [u64], shape: Shape, i: usize) -> &'a [u64]
-    requires inside { i < shape.lines }
-    requires whole { shape.at + shape.lines * line_size shape.width ≤ length lists.now }
-    ensures is { result.now ≡ drop (shape.at + i * line_size shape.width) lists.now }
-    ensures long { line_size shape.width ≤ length result.now }
+// How many numbers a line takes that is w cells wide.
+pub fn line_size(w: usize) -> usize
+    requires { line_size w < 2 ^ 64 }
+    ensures { result ≡ line_size w }
 {
-    &lists[shape.at + i * (1 + 2 * shape.width)..]
+    1 + 2 * w
 }
 
-// The node of a line's condition.
-pub fn line_node(line: &[u64]) -> u64
-    requires { 0 < length line.now }
-    ensures { result ≡ slice_index line.now 0 }
-{
-    line[0]
+// A line of so many cells, and what stands behind it.
+#[derive(Clone, Copy)]
+pub struct Line<'a> {
+    pub(crate) numbers: &'a [u64],
+    pub(crate) width: usize,
+    pub ghost long: { line_size width ≤ length numbers.now },
 }
 
-// Cell a of a line.
-pub fn line_cell(line: &[u64], a: usize) -> Cell
-    requires { line_size (a + 1) ≤ length line.now }
-    ensures { cell_of result ≡ cell_in (slice_index line.now (1 + 2 * a)) (slice_index line.now (2 + 2 * a)) }
-{
-    cell_at(line, 1 + 2 * a)
+impl<'a> Line<'a> {
+    ghost use Rattle.std.specs.Prelude.{slice_index};
+    ghost use Rattle.condition.specs.Store.{cell_in};
+    ghost use Rattle.condition.specs.Shapes.{cell_of};
+
+    // How many cells it has.
+    pub fn width(&self) -> usize
+        ensures { result ≡ self.now.width }
+    {
+        self.width
+    }
+
+    // The node of its condition.
+    pub fn node(&self) -> u64
+        ensures { result ≡ slice_index self.now.numbers.now 0 }
+    {
+        self.numbers[0]
+    }
+
+    // Its cell in column a.
+    pub fn cell(&self, a: usize) -> Cell
+        requires { a < self.now.width }
+        ensures { cell_of result ≡ cell_in (slice_index self.now.numbers.now (1 + 2 * a)) (slice_index self.now.numbers.now (2 + 2 * a)) }
+    {
+        cell_at(self.numbers, 1 + 2 * a)
+    }
+
+    // The numbers of its cells, and what stands behind them.
+    pub(crate) fn cells(&self) -> &'a [u64]
+        ensures { result.now ≡ drop 1 self.now.numbers.now }
+    {
+        &self.numbers[1..]
+    }
+}
+
+impl Shape {
+    // Line i of the list of this shape.
+    pub fn line<'a>(self, lists: &'a [u64], i: usize) -> Line<'a>
+        requires inside { i < self.lines }
+        requires whole { self.at + self.lines * line_size self.width ≤ length lists.now }
+        ensures is { result.numbers.now ≡ drop (self.at + i * line_size self.width) lists.now }
+        ensures width { result.width ≡ self.width }
+    {
+        Line {
+            numbers: &lists[self.at + i * line_size(self.width)..],
+            width: self.width,
+        }
+    }
+}
+
+// Lines that stand one after the other, as many as are left.
+#[derive(Drop)]
+pub struct Lines<'a> {
+    rest: &'a [u64],
+    count: usize,
+    width: usize,
+    ghost whole: { count * line_size width ≤ length rest.now },
+}
+
+impl<'a> Lines<'a> {
+    ghost use Rattle.list.specs.Lines.{starts, lines_left};
+
+    // The n lines at the front of a slice, w cells wide.
+    pub fn of(xs: &'a [u64], n: usize, w: usize) -> Lines<'a>
+        requires { n * line_size w ≤ length xs.now }
+        ensures { lines_left result ≡ starts n w xs.now }
+    {
+        Lines {
+            rest: xs,
+            count: n,
+            width: w,
+        }
+    }
+}
+
+impl<'a> Iterator for Lines<'a> {
+    ghost use Rattle.std.specs.Iterator.{YieldsFirstBy, item_count};
+    ghost use Rattle.list.specs.Lines.{shown, lines_left};
+
+    type Item = Line<'a>;
+
+    ghost next_gives = { YieldsFirstBy shown lines_left };
+
+    ghost remaining = { item_count lines_left };
+
+    fn next(&mut self) -> Option<Line<'a>> {
+        let count = self.count.checked_sub(1)?;
+        let line = Line {
+            numbers: self.rest,
+            width: self.width,
+        };
+        *self = Lines {
+            rest: &self.rest[line_size(self.width)..],
+            count,
+            width: self.width,
+        };
+        Some(line)
+    }
+}
+
+impl DoubleEndedIterator for Lines<'_> {
+    ghost use Rattle.std.specs.Iterator.{YieldsLastBy};
+    ghost use Rattle.list.specs.Lines.{shown, lines_left};
+
+    ghost next_back_gives = { YieldsLastBy shown lines_left };
+
+    fn next_back(&mut self) -> Option<Self::Item> {
+        let last = self.count.checked_sub(1)?;
+        self.count = last;
+        Some(Line {
+            numbers: &self.rest[last * line_size(self.width)..],
+            width: self.width,
+        })
+    }
 }

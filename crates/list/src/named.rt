@@ -4,6 +4,7 @@ ghost use Rattle.condition.specs.Refusals.{outcome};
 ghost use Rattle.list.specs.Layout.{line_size, list_size, Fits, lines_named, list_named, lists_told, named_below};
 
 use crate::passing::passing;
+use crate::{Lines, line_size};
 use condition::Refusal;
 
 // How many lists there are, or which names a node that does not stand among count nodes.
@@ -38,7 +39,7 @@ fn named_size(xs: &[u64], count: u64) -> Option<usize>
     if !any_lines_named(&xs[2..], n, w, count) {
         return None;
     }
-    Some(2 + n * (1 + 2 * w))
+    Some(2 + n * line_size(w))
 }
 
 // Whether the nodes of n lines, w cells wide, stand among count nodes.
@@ -46,5 +47,5 @@ pub fn any_lines_named(xs: &[u64], n: usize, w: usize, count: u64) -> bool
     requires { n * line_size w ≤ length xs.now }
     ensures { result ≡ lines_named count n w xs.now }
 {
-    (0..n).all(|i| xs[i * (1 + 2 * w)] < count)
+    Lines::of(xs, n, w).all(|line| line.node() < count)
 }

@@ -2,6 +2,7 @@
 ghost use Rattle.std.specs.Prelude.{◌≤◌};
 ghost use Rattle.list.specs.Bounds.{AllSmall};
 
+use crate::line_size;
 use crate::shape::{Shape, read_shape};
 
 // The shapes of at most eight lists, each of at most 64 lines and 4 columns.
@@ -30,10 +31,9 @@ impl Shapes {
         }; 8];
         let count = lists[0] as usize;
         let mut at = 2;
-        for t in 0..count {
-            let shape = read_shape(lists, at);
-            shapes[t] = shape;
-            at = shape.at + shape.lines * (1 + 2 * shape.width);
+        for shape in &mut shapes[..count] {
+            *shape = read_shape(lists, at);
+            at = shape.at + shape.lines * line_size(shape.width);
         }
         Shapes { shapes, count }
     }
@@ -42,10 +42,6 @@ impl Shapes {
     pub fn get(&self, t: usize) -> Option<Shape>
         ensures { MatchOption result (self.now.count ≤ t) (λ s. (t < self.now.count) × (s ≡ shape_of self.now t)) }
     {
-        if t < self.count {
-            Some(self.shapes[t])
-        } else {
-            None
-        }
+        self.shapes[..self.count].get(t).copied()
     }
 }

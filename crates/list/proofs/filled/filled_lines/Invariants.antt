@@ -6,7 +6,7 @@ use Rattle.evaluate.specs.Values.{WorkedOut}
 use Rattle.list.specs.Shapes.{rows_of}
 use Rattle.list.proofs.filled.filled_lines.Given as goal
 
-abbrev pub invariant-loop-i : goal.invariant-loop-i
-invariant-loop-i l =
+abbrev pub invariant-loop-line : goal.invariant-loop-line
+invariant-loop-line l =
     (nodes : List ℕ) → WorkedOut (numbers_of l.filling) nodes (length l.values) l.values →
-    rows_of l.rows ≡ filled (numbers_of l.filling) (take l.i (lines_in nodes l.shape.lines l.shape.width (drop l.shape.at l.lists)))
+    rows_of l.rows ≡ filled (numbers_of l.filling) (take (length l.yielded) (lines_in nodes l.fn.shape.lines l.fn.shape.width (drop l.fn.shape.at l.lists)))

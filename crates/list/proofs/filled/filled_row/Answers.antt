@@ -8,7 +8,7 @@ use Rattle.list.proofs.filled.filled_row.Goals as goal
 
 pub returns : goal.returns
 returns c =
-    let v = numbers_of c.args.filling.now in let xs = c.args.line.now in let w = c.args.w in
+    let v = numbers_of c.args.filling.now in let xs = c.args.line.numbers.now in let w = c.args.line.width in
     items_from_collect {E = Unit {0}} (Ok c.in_ok-row.row) c.in_ok-row.ensures.ran
     (YieldsList-from_map _ (λ a. fill_cell v (cell_in (get_or xs (1 + 2 * a) 0) (get_or xs (2 + 2 * a) 0)))
     (YieldsList-from_range 0 w w c.map.ensures.source (omega arith)) c.map.ensures.closure (λ x r q k. search (rules, tests)))

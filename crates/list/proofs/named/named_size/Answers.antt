@@ -9,4 +9,4 @@ returns-then-not-any_lines_named c = let p = simp take_rest at c.any_lines_named
 
 pub returns : goal.returns
 unfolding list_named
-returns c = let p = simp take_rest at c.any_lines_named.ensures in (cc, omega arith, omega (arith, c.requires.whole))
+returns c = let p = simp take_rest at c.any_lines_named.ensures in rw c.line_size.ensures (cc, omega arith, omega (arith, c.requires.whole))

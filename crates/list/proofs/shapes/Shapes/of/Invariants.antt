@@ -4,5 +4,6 @@ use Rattle.list.specs.Shapes.{Shaped}
 use Rattle.list.proofs.Walking.{Walked}
 use Rattle.list.proofs.shapes.Shapes.of.Given as goal
 
-abbrev pub invariant-loop-t : goal.invariant-loop-t
-invariant-loop-t l = Walked l.lists l.t l.at × (length l.shapes ≡ 8) × ((j : ℕ) → j < l.t → Shaped l.lists j (get_or l.shapes j no_shape))
+abbrev pub invariant-loop-shape : goal.invariant-loop-shape
+invariant-loop-shape l =
+    Walked l.lists l.shape-index l.at × (length l.shape-items ≡ l.count) × ((j : ℕ) → j < l.shape-index → Shaped l.lists j (get_or l.shape-items j no_shape))
