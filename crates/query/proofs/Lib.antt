@@ -2,12 +2,13 @@ pub mod Placed
 pub mod Bounds
 pub mod Parting
 pub mod Tokens
-pub mod Columns
+pub mod Below
 pub mod Steps
 pub mod Telling
 pub mod Shaping
 pub mod Left
 pub mod Added
+pub mod Collected
 pub mod Filtered
 pub mod Firsts
 pub mod Questions

@@ -1,22 +1,23 @@
 -- Reading a question into parts: one law for each kind of sign.
-use Rattle.std.proofs.Common.{◌≡◌, ℕ, zero, suc, ◌+◌, ◌-◌, ◌*◌, ◌<◌, ◌≤◌, true, false, ◌&&◌, leb, ◌⊎◌, List, length, get_or, take, drop, set, sym, refl, ap, ◌∙◌, inl, inr, arith, length-drop}
-use Rattle.std.proofs.lemmas.List.{drop-drop, get_or-drop, get_or-set_same, get_or-set_other, drop-set-lt, length-set}
+use Rattle.std.proofs.Common.{◌≡◌, ℕ, zero, suc, ◌+◌, ◌-◌, ◌*◌, ◌<◌, ◌≤◌, true, false, ◌&&◌, leb, ◌⊎◌, List, length, get_or, drop, set, sym, refl, ap, ◌∙◌, inl, inr, arith, length-drop}
+use Rattle.std.proofs.lemmas.List.{drop-drop, get_or-drop, get_or_read, get_or-set_same, get_or-set_other, drop-set-lt, length-set}
 use Rattle.std.proofs.lemmas.Bool.{le-leb, lt-leb, lt-ltb, le-ltb, eq-eqb, ne_eqb}
 use Rattle.query.specs.Reading.{Sized, of_list, of_test, of_columns, of_join, of_union, of_without, test_fits, all_below, a_list, a_test, some_columns, a_join, a_union, a_without, no_sign, read, bad, reads, by_sign, sign_in}
 use Rattle.query.specs.Reading.{Sign as ReadingSign}
 use Rattle.query.specs.Ask.{Query}
-use Rattle.query.specs.Shapes.{no_part, part_at, test_of, query_by, query_of}
+use Rattle.query.specs.Shapes.{no_part, part_at, test_of, columns_of, query_by, query_of}
 use Rattle.query.specs.declared.Test.{Test}
 use Rattle.query.specs.Parts.{sized_by, sized_of, Numbers, FitsBy, NeedsBy, Parted, Reads}
 use Rattle.query.specs.declared.Sign.{Sign}
 use Rattle.query.specs.declared.Sign.TheVariants.{Rows, Keep, Columns, Join, Union, Without}
 use Rattle.query.specs.declared.Part.{Part}
+use Rattle.query.specs.declared.columns.Columns as chosen
 
 -- What a sign says of the questions that it needs carries over to others that are alike.
-abbrev Carried : Sign → ℕ → ℕ → List (ℕ × ℕ) → (f g : ℕ → Sized) → (ℕ → ℕ → Type 0) → Type 0
-Carried sign w u ss f g Q = (sized_by sign w ss g ≡ sized_by sign w ss f) × (FitsBy sign w ss f → FitsBy sign w ss g) × NeedsBy sign u Q
+abbrev Carried : Sign → ℕ → List (ℕ × ℕ) → (f g : ℕ → Sized) → (ℕ → ℕ → Type 0) → Type 0
+Carried sign u ss f g Q = (sized_by sign ss g ≡ sized_by sign ss f) × (FitsBy sign ss f → FitsBy sign ss g) × NeedsBy sign u Q
 
-module _ (w u : ℕ) (ss : List (ℕ × ℕ)) (f g : ℕ → Sized) (P Q : ℕ → ℕ → Type 0) (same : (i v : ℕ) → i + v ≤ u → P i v → Q i v × (g i ≡ f i)) where
+module _ (u : ℕ) (ss : List (ℕ × ℕ)) (f g : ℕ → Sized) (P Q : ℕ → ℕ → Type 0) (same : (i v : ℕ) → i + v ≤ u → P i v → Q i v × (g i ≡ f i)) where
   carry_one : (1 < u) × P 1 (u - 1) → (Q 1 (u - 1)) × (g 1 ≡ f 1)
   carry_one n = same 1 (u - 1) (omega (arith, n.0)) n.1
 
@@ -26,10 +27,10 @@ module _ (w u : ℕ) (ss : List (ℕ × ℕ)) (f g : ℕ → Sized) (P Q : ℕ �
   carry_second : (second : ℕ) → second < u → P second (u - second) → Q second (u - second) × (g second ≡ f second)
   carry_second second b p = same second (u - second) (omega arith) p
 
-  carry : (sign : Sign) → NeedsBy sign u P → Carried sign w u ss f g Q
+  carry : (sign : Sign) → NeedsBy sign u P → Carried sign u ss f g Q
   carry (Rows t) n = (refl, λ x. x, n)
   carry (Keep t) n = let e = carry_one n in (rw e.1, λ x. rw e.1 x, (n.0, e.0))
-  carry (Columns ps) n = let e = carry_one n in (rw e.1, λ x. rw e.1 x, (n.0, e.0))
+  carry (Columns c) n = let e = carry_one n in (rw e.1, λ x. rw e.1 x, (n.0, e.0))
   carry (Join k) n = let a = carry_first k n.0 n.1 n.2 in let b = carry_second k n.1 n.3 in (rw (a.1, b.1), λ x. rw (a.1, b.1) x, (n.0, n.1, a.0, b.0))
   carry (Union k) n = let a = carry_first k n.0 n.1 n.2 in let b = carry_second k n.1 n.3 in (rw (a.1, b.1), λ x. rw (a.1, b.1) x, (n.0, n.1, a.0, b.0))
   carry (Without k) n = let a = carry_first k n.0 n.1 n.2 in let b = carry_second k n.1 n.3 in (rw (a.1, b.1), λ x. rw (a.1, b.1) x, (n.0, n.1, a.0, b.0))
@@ -37,13 +38,17 @@ module _ (w u : ℕ) (ss : List (ℕ × ℕ)) (f g : ℕ → Sized) (P Q : ℕ �
 some_parts : (sign : Sign) (u : ℕ) (P : ℕ → ℕ → Type 0) → NeedsBy sign u P → 0 < u
 some_parts (Rows t) u P n = omega arith
 some_parts (Keep t) u P n = omega (arith, n.0)
-some_parts (Columns ps) u P n = omega (arith, n.0)
+some_parts (Columns c) u P n = omega (arith, n.0)
 some_parts (Join k) u P n = omega (arith, n.1)
 some_parts (Union k) u P n = omega (arith, n.1)
 some_parts (Without k) u P n = omega (arith, n.1)
 
 part_drop : (ps : List Part) (i j : ℕ) → part_at (drop i ps) j ≡ part_at ps (i + j)
 part_drop ps i j = get_or-drop i ps j no_part
+
+-- a part that was read
+pub part_read : (ps : List Part) (i : ℕ) (p : Part) → i < length ps → p ≡ get_or ps i p → p ≡ part_at ps i
+part_read ps i p l e = get_or_read ps i p l e no_part
 
 -- Parts that agree where a question stands have that question too.
 pub parted_same : (n : ℕ) (ss : List (ℕ × ℕ)) (u : ℕ) (ps qs : List Part) → Parted n ss u ps → u ≤ length qs → ((i : ℕ) → i < u → part_at qs i ≡ part_at ps i) →
@@ -52,26 +57,26 @@ unfolding sized_of Parted
 parted_same zero ss u ps qs p l h = absurd p
 parted_same (suc n) ss u ps qs p l h =
     let e : part_at qs 0 ≡ part_at ps 0 = h 0 (some_parts (part_at ps 0).sign u (λ i v. Parted n ss v (drop i ps)) p.3) in
-    let c : Carried (part_at ps 0).sign (part_at ps 0).width u ss (λ i. sized_of n ss (drop i ps)) (λ i. sized_of n ss (drop i qs)) (λ i v. Parted n ss v (drop i qs)) =
-    carry (part_at ps 0).width u ss (λ i. sized_of n ss (drop i ps)) (λ i. sized_of n ss (drop i qs)) (λ i v. Parted n ss v (drop i ps)) (λ i v. Parted n ss v (drop i qs))
+    let c : Carried (part_at ps 0).sign u ss (λ i. sized_of n ss (drop i ps)) (λ i. sized_of n ss (drop i qs)) (λ i v. Parted n ss v (drop i qs)) =
+    carry u ss (λ i. sized_of n ss (drop i ps)) (λ i. sized_of n ss (drop i qs)) (λ i v. Parted n ss v (drop i ps)) (λ i v. Parted n ss v (drop i qs))
     (λ i v m q. parted_same n ss v (drop i ps) (drop i qs) q (simp length-drop (omega arith)) (λ j k. part_drop qs i j ∙ (h (i + j) (omega arith) ∙ sym (part_drop ps i j))))
     (part_at ps 0).sign p.3 in
     rw e ((l, rw c.0 p.1, c.1 p.2, c.2), c.0)
 
 -- The question itself, without its sizes.
-query_by_same : (sign : Sign) (w : ℕ) (ss : List (ℕ × ℕ)) (f : ℕ → Sized) (g : ℕ → Query) → ((i : ℕ) → (f i).query ≡ g i) → (sized_by sign w ss f).query ≡ query_by sign w g
-query_by_same (Rows t) w ss f g h = refl
-query_by_same (Keep t) w ss f g h = rw (h 1) refl
-query_by_same (Columns ps) w ss f g h = rw (h 1) refl
-query_by_same (Join k) w ss f g h = rw (h 1, h k) refl
-query_by_same (Union k) w ss f g h = rw (h 1, h k) refl
-query_by_same (Without k) w ss f g h = rw (h 1, h k) refl
+query_by_same : (sign : Sign) (ss : List (ℕ × ℕ)) (f : ℕ → Sized) (g : ℕ → Query) → ((i : ℕ) → (f i).query ≡ g i) → (sized_by sign ss f).query ≡ query_by sign g
+query_by_same (Rows t) ss f g h = refl
+query_by_same (Keep t) ss f g h = rw (h 1) refl
+query_by_same (Columns c) ss f g h = rw (h 1) refl
+query_by_same (Join k) ss f g h = rw (h 1, h k) refl
+query_by_same (Union k) ss f g h = rw (h 1, h k) refl
+query_by_same (Without k) ss f g h = rw (h 1, h k) refl
 
 pub query_sized : (n : ℕ) (ss : List (ℕ × ℕ)) (ps : List Part) → (sized_of n ss ps).query ≡ query_of n ps
 unfolding sized_of query_of
 query_sized zero ss ps = refl
 query_sized (suc n) ss ps =
-    query_by_same (part_at ps 0).sign (part_at ps 0).width ss (λ i. sized_of n ss (drop i ps)) (λ i. query_of n (drop i ps)) (λ i. query_sized n ss (drop i ps))
+    query_by_same (part_at ps 0).sign ss (λ i. sized_of n ss (drop i ps)) (λ i. query_of n (drop i ps)) (λ i. query_sized n ss (drop i ps))
 
 -- one sign, and what is read behind it
 pub reads_step : (n : ℕ) (ss : List (ℕ × ℕ)) (at : ℕ) (xs : List ℕ) → 6 ≤ length xs →
@@ -98,8 +103,8 @@ module _ (n : ℕ) (ss : List (ℕ × ℕ)) (at : ℕ) (mid : List Part) (p : Pa
 
   laid : (xs : List ℕ) (before : List Part) (next : ℕ) (s : Sized) (rest : List ℕ) → reads (suc n) ss at xs ≡ read s next rest → at < next → next ≤ length mid →
       length mid ≡ length before → ((i : ℕ) → (i < at) ⊎ (next ≤ i) → part_at mid i ≡ part_at before i) →
-      Numbers p s → sized_by p.sign p.width ss (λ i. sized_of n ss (drop i written)) ≡ s →
-      FitsBy p.sign p.width ss (λ i. sized_of n ss (drop i written)) → NeedsBy p.sign (next - at) (λ i v. Parted n ss v (drop i written)) →
+      Numbers p s → sized_by p.sign ss (λ i. sized_of n ss (drop i written)) ≡ s →
+      FitsBy p.sign ss (λ i. sized_of n ss (drop i written)) → NeedsBy p.sign (next - at) (λ i v. Parted n ss v (drop i written)) →
       Reads (suc n) ss at xs before (set mid at p) next rest
   unfolding sized_of Parted
   laid xs before next s rest is ahead fits long kept numbers sizes inside needs =
@@ -218,14 +223,15 @@ module _ (n : ℕ) (ss : List (ℕ × ℕ)) (at : ℕ) (xs : List ℕ) (six : 6 
     pub test_bad : (t : Test) → sign ≡ a_test (test_of t) → test_fits (test_of t) r.question.width ≡ false → reads (suc n) ss at xs ≡ bad at
     test_bad t e off = step (a_test (test_of t)) e ∙ rw (inner, off) refl
 
-    pub columns_part : (k : ℕ) (cs ps : List ℕ) → sign ≡ some_columns k ps → length cs ≡ 4 → take k cs ≡ ps → 1 ≤ k → k ≤ 4 → all_below r.question.width ps ≡ true →
-        Reads (suc n) ss at xs before (set mid at (record { sign = Columns cs; lines = (part_at mid (at + 1)).lines; width = k; cost = (part_at mid (at + 1)).cost })) next rest
-    columns_part k cs ps e four same low high below =
-        let p : Part = record { sign = Columns cs; lines = (part_at mid (at + 1)).lines; width = k; cost = (part_at mid (at + 1)).cost } in
+    pub columns_part : (k : ℕ) (c : chosen.Columns) (ps : List ℕ) → sign ≡ some_columns k ps → c.count ≡ k → columns_of c ≡ ps → all_below r.question.width ps ≡ true →
+        Reads (suc n) ss at xs before (set mid at (record { sign = Columns c; lines = (part_at mid (at + 1)).lines; width = c.count; cost = (part_at mid (at + 1)).cost })) next rest
+    columns_part k c ps e many same below =
+        let p : Part = record { sign = Columns c; lines = (part_at mid (at + 1)).lines; width = c.count; cost = (part_at mid (at + 1)).cost } in
+        let low : leb 1 k ≡ true = le-leb 1 k (omega (arith, c.some)) in let high : leb k 4 ≡ true = le-leb k 4 (omega (arith, c.few)) in
         laid n ss at mid p within xs before next (of_columns k ps r.question) rest
-        (step (some_columns k ps) e ∙ rw (inner, le-leb 1 k low, le-leb k 4 high, below) refl) (omega (arith, r.ahead)) ends r.long (λ i h. r.kept i (wider i h))
-        (record { lines = sub_numbers.lines; width = refl; cost = sub_numbers.cost }) (rw (sub_sized p, same) refl)
-        (rw (sub_sized p, same) (four, low, high, below)) (omega (arith, r.ahead), sub_parted p)
+        (step (some_columns k ps) e ∙ rw (inner, low, high, below) refl) (omega (arith, r.ahead)) ends r.long (λ i h. r.kept i (wider i h))
+        (record { lines = sub_numbers.lines; width = many; cost = sub_numbers.cost }) (rw (sub_sized p, same, many) refl)
+        (rw (sub_sized p, same) below) (omega (arith, r.ahead), sub_parted p)
 
     pub columns_bad : (k : ℕ) (ps : List ℕ) → sign ≡ some_columns k ps → (leb 1 k && (leb k 4 && all_below r.question.width ps)) ≡ false → reads (suc n) ss at xs ≡ bad at
     columns_bad k ps e off = step (some_columns k ps) e ∙ rw (inner, off) refl
@@ -280,8 +286,8 @@ module _ (n : ℕ) (ss : List (ℕ × ℕ)) (at : ℕ) (xs : List ℕ) (six : 6 
 
       abbrev Pair : Part → Sized → Type 0
       Pair p s =
-          reads (suc n) ss at xs ≡ read s end last → Numbers p s → sized_by p.sign p.width ss (λ i. sized_of n ss (drop i (drop at (set after at p)))) ≡ s →
-          FitsBy p.sign p.width ss (λ i. sized_of n ss (drop i (drop at (set after at p)))) →
+          reads (suc n) ss at xs ≡ read s end last → Numbers p s → sized_by p.sign ss (λ i. sized_of n ss (drop i (drop at (set after at p)))) ≡ s →
+          FitsBy p.sign ss (λ i. sized_of n ss (drop i (drop at (set after at p)))) →
           NeedsBy p.sign (end - at) (λ i v. Parted n ss v (drop i (drop at (set after at p)))) → Reads (suc n) ss at xs before (set after at p) end last
 
       pair : (p : Part) (s : Sized) → Pair p s

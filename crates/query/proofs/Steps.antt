@@ -1,8 +1,8 @@
 -- One step of reading, in the words of the code: a sign, what was read behind it, and the part that is written for it.
-use Rattle.std.proofs.Common.{◌≡◌, ℕ, suc, ◌+◌, ◌-◌, ◌*◌, ◌^◌, ◌<◌, ◌≤◌, true, false, ◌&&◌, leb, ◌⊎◌, List, length, get_or, take, drop, set, sym, refl, ◌∙◌, inl, inr, arith, length-drop}
+use Rattle.std.proofs.Common.{◌≡◌, ℕ, suc, ◌+◌, ◌-◌, ◌*◌, ◌^◌, ◌<◌, ◌≤◌, true, false, ◌&&◌, leb, ◌⊎◌, List, length, get_or, drop, set, sym, refl, ◌∙◌, inl, inr, Some, None, arith, length-drop}
 use Rattle.std.proofs.lemmas.List.{get_or_past}
 use Rattle.std.proofs.lemmas.List.FromFn.{length-map-range_with_len, get_or-map-range_with_len}
-use Rattle.std.proofs.lemmas.Bool.{leb-true, leb-false, eqb-true, eqb-false, and_parts, and_right, lt-leb, cases_lt}
+use Rattle.std.proofs.lemmas.Bool.{false≢true, leb-true, leb-false, eqb-true, eqb-false, and_right, lt-leb, cases_lt}
 use Rattle.list.specs.Bounds.{AllSmall}
 use Rattle.list.specs.Shapes.{shape_of}
 use Rattle.list.specs.declared.shapes.Shapes.{Shapes}
@@ -60,7 +60,7 @@ module _ (left : ℕ) (ss : List (ℕ × ℕ)) (at : ℕ) (xs : List ℕ) (some 
   -- one question behind a sign
   pub single_bad : (one : One) → OneIs one sign → (off : ℕ) → reads (left - 1) ss (at + 1) (drop 6 xs) ≡ bad off → reads left ss at xs ≡ bad off
   single_bad (Test t) e off b = back_bad off (first_bad (left - 1) ss at xs six _ tt e off b)
-  single_bad (Cut k cs) e off b = back_bad off (first_bad (left - 1) ss at xs six _ tt e.1.1 off b)
+  single_bad (Cut o) e off b = back_bad off (first_bad (left - 1) ss at xs six _ tt e.2 off b)
 
   pub double_bad : (pair : Pair) → sign ≡ pair_of pair → (off : ℕ) → reads (left - 1) ss (at + 1) (drop 6 xs) ≡ bad off → reads left ss at xs ≡ bad off
   double_bad Joined e off b = back_bad off (first_bad (left - 1) ss at xs six _ tt e off b)
@@ -73,24 +73,23 @@ module _ (left : ℕ) (ss : List (ℕ × ℕ)) (at : ℕ) (xs : List ℕ) (some 
 
     pub single_off : (one : One) → OneIs one sign → false ≡ one_fits one (part_at mid (at + 1)).width → reads left ss at xs ≡ bad at
     single_off (Test t) e off = back_bad at (test_bad (left - 1) ss at xs six before mid next rest long r t e (rw numbers.width at (sym off)))
-    single_off (Cut k cs) e off =
-        back_bad at (columns_bad (left - 1) ss at xs six before mid next rest long r k e.1.0 e.1.1 (go (cases_lt 4 k) (rw numbers.width at (sym off))))
+    single_off (Cut None) e off = back_bad at (columns_bad (left - 1) ss at xs six before mid next rest long r e.0 e.1 e.2 (go e.3))
       where
-        go : (4 < k) ⊎ (k ≤ 4) → (leb 1 k && (leb k 4 && all_below r.question.width (take k cs))) ≡ false → (leb 1 k && (leb k 4 && all_below r.question.width e.1.0)) ≡ false
-        go (inl l) h = rw (lt-leb k 4 l) (and_right (leb 1 k) false refl)
-        go (inr l) h = rw (e.1.2 l) at h
+        go : (e.0 ≡ 0) ⊎ (4 < e.0) → (leb 1 e.0 && (leb e.0 4 && all_below r.question.width e.1)) ≡ false
+        go (inl l) = rw l refl
+        go (inr l) = rw (lt-leb e.0 4 l) (and_right (leb 1 e.0) false refl)
+    single_off (Cut (Some c)) e off =
+        let b : all_below r.question.width e.1 ≡ false = rw (← e.3.1, ← numbers.width) (sym off) in
+        back_bad at (columns_bad (left - 1) ss at xs six before mid next rest long r e.0 e.1 e.2 (rw b (and_right (leb 1 e.0) _ (and_right (leb e.0 4) false refl))))
 
     pub single : (one : One) → OneIs one sign → true ≡ one_fits one (part_at mid (at + 1)).width →
         Reads left ss at xs before (set mid at (one_part one (part_at mid (at + 1)))) next rest
     single (Test t) e on =
         back before _ next rest (test_part (left - 1) ss at xs six before mid next rest long r t e (rw numbers.width at (sym on)) ((part_at mid (at + 1)).cost + 3 * (part_at mid (at + 1)).lines)
         (cc (numbers.cost, numbers.lines)))
-    single (Cut k cs) e on =
-        let f : (leb 1 k ≡ true) × ((leb k 4 && all_below (part_at mid (at + 1)).width (take k cs)) ≡ true) = and_parts (leb 1 k) (leb k 4 && all_below (part_at mid (at + 1)).width (take k cs)) (sym on) in
-        let g : (leb k 4 ≡ true) × (all_below (part_at mid (at + 1)).width (take k cs) ≡ true) = and_parts (leb k 4) (all_below (part_at mid (at + 1)).width (take k cs)) f.1 in
-        let l : k ≤ 4 = leb-true k 4 g.0 in
-        back before _ next rest (columns_part (left - 1) ss at xs six before mid next rest long r k cs e.1.0 e.1.1 e.0 (e.1.2 l) (leb-true 1 k f.0) l
-        (rw (numbers.width, e.1.2 l) at g.1))
+    single (Cut None) e on = absurd (false≢true (sym on))
+    single (Cut (Some c)) e on =
+        back before _ next rest (columns_part (left - 1) ss at xs six before mid next rest long r e.0 c e.1 e.2 e.3.0 e.3.1 (rw (numbers.width, e.3.1) at (sym on)))
 
     -- two questions behind a sign
     pub double_second_bad : (pair : Pair) → sign ≡ pair_of pair → (off : ℕ) → reads (left - 1) ss next rest ≡ bad off → reads left ss at xs ≡ bad off

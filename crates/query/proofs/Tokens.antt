@@ -1,7 +1,10 @@
 -- Each kind of sign by its numbers.
-use Rattle.std.proofs.Common.{◌≡◌, ℕ, suc, ◌-◌, ◌≤◌, List, [], ◌∷◌, length, get_or, take, drop, refl, ap, ◌∙◌, arith, length-drop}
+use Rattle.std.proofs.Common.{◌≡◌, ℕ, suc, ◌-◌, ◌≤◌, List, [], ◌∷◌, length, get_or, take, drop, Option, Some, None, MatchOption, ◌<◌, ◌⊎◌, refl, ap, ◌∙◌, arith, length-drop}
 use Rattle.std.proofs.lemmas.List.{get_or-drop, drop-drop, take-take}
 use Rattle.query.specs.Ask.{same, differ, is, is_not}
+use Rattle.query.specs.Shapes.{columns_of}
+use Rattle.query.specs.Tokens.{CutIs}
+use Rattle.query.specs.declared.columns.Columns.{Columns}
 use Rattle.query.specs.Reading.{Sign, a_list, a_test, some_columns, a_join, a_union, a_without, no_sign, sign_in}
 
 module _ (xs : List ℕ) where
@@ -73,3 +76,8 @@ four xs k l m =
     let a = get_or-drop 2 xs 0 0 in let b = get_or-drop 2 xs 1 0 in let c = get_or-drop 2 xs 2 0 in let d = get_or-drop 2 xs 3 0 in
     let g : ◌≡◌ {A = List ℕ} (get_or xs 2 0 ∷ (get_or xs 3 0 ∷ (get_or xs 4 0 ∷ (get_or xs 5 0 ∷ [])))) (take 4 (drop 2 xs)) = cc in
     ap (take k) g ∙ take-take k 4 (drop 2 xs) m
+
+-- columns made of four numbers
+pub cut_is : (o : Option Columns) (k : ℕ) (cs ps : List ℕ) → MatchOption o ((k ≡ 0) ⊎ (4 < k)) (λ c. (c.count ≡ k) × (columns_of c ≡ take k cs)) → (k ≤ 4 → take k cs ≡ ps) → CutIs o k ps
+cut_is None k cs ps made agree = made
+cut_is (Some c) k cs ps made agree = (made.0, made.1 ∙ agree (omega (arith, made.0, c.few)))

@@ -21,8 +21,7 @@ pub(crate) fn ask_rows(
     if left == 0 || parts.len() == 0 {
         return table(heap, tables, 0);
     }
-    let part = parts[0];
-    match part.sign {
+    match parts[0].sign {
         Sign::Rows(t) => table(heap, tables, t),
         Sign::Keep(test) => {
             let rows = ask_rows(heap, &parts[1..], left - 1, tables)?;
@@ -30,7 +29,7 @@ pub(crate) fn ask_rows(
         }
         Sign::Columns(columns) => {
             let rows = ask_rows(heap, &parts[1..], left - 1, tables)?;
-            cut_to_first(heap, columns, part.width, rows.as_slice())
+            cut_to(heap, columns.as_slice(), rows.as_slice())
         }
         Sign::Join(second) => {
             let rows = ask_rows(heap, &parts[1..], left - 1, tables)?;
@@ -79,12 +78,9 @@ pub(crate) fn cut_to(
 ) -> Result<Vec<Vec<u64>>, AllocError>
     ensures { IfOk result (λ v. rows_of v ≡ cut_to columns.now (rows_in rows.now)) }
 {
-    let mut out = Vec::new(heap);
-    for row in rows {
-        let cut = at_columns(heap, columns, row.as_slice())?;
-        out.push(cut)?;
-    }
-    Ok(out)
+    rows.iter()
+        .map(|row| at_columns(heap, columns, row.as_slice()))
+        .try_collect(heap)
 }
 
 // Each of the rows followed by each of the others.
@@ -110,9 +106,10 @@ pub(crate) fn united(
 ) -> Result<Vec<Vec<u64>>, AllocError>
     ensures { IfOk result (λ v. rows_of v ≡ rows_in rows.now ++ rows_in others.now) }
 {
-    let mut out = copied(heap, rows)?;
-    add_rows(heap, &mut out, others)?;
-    Ok(out)
+    rows.iter()
+        .chain(others.iter())
+        .map(|row| row.clone())
+        .try_collect(heap)
 }
 
 // The rows that are none of the others.
@@ -135,23 +132,17 @@ fn filtered<F: Fn(&[u64]) -> bool>(
     requires { F.IsAlwaysCallable keep }
     ensures { (test : Row → Bool) → ((row b : _) → F.post keep row b → b ≡ test row.now) → IfOk result (λ v. rows_of v ≡ filter test (rows_in rows.now)) }
 {
-    let mut out = Vec::new(heap);
-    for row in rows {
-        let numbers = row.as_slice();
-        if keep(numbers) {
-            add_row(heap, &mut out, numbers)?;
-        }
-    }
-    Ok(out)
+    rows.iter()
+        .filter(|row| keep(row.as_slice()))
+        .map(|row| row.clone())
+        .try_collect(heap)
 }
 
 // A copy of the rows.
 pub(crate) fn copied(heap: Global, rows: &[Vec<u64>]) -> Result<Vec<Vec<u64>>, AllocError>
     ensures { IfOk result (λ v. rows_of v ≡ rows_in rows.now) }
 {
-    let mut out = Vec::new(heap);
-    add_rows(heap, &mut out, rows)?;
-    Ok(out)
+    rows.iter().map(|row| row.clone()).try_collect(heap)
 }
 
 // Whether a row passes a test; a column past its end counts as 0.
@@ -187,18 +178,6 @@ fn behind(parts: &[Part], k: usize) -> &[Part]
     &parts[k.min(parts.len())..]
 }
 
-// Of each row as many of these columns as are wanted.
-fn cut_to_first(
-    heap: Global,
-    columns: [usize; 4],
-    width: usize,
-    rows: &[Vec<u64>],
-) -> Result<Vec<Vec<u64>>, AllocError>
-    ensures { IfOk result (λ v. rows_of v ≡ cut_to (take width columns) (rows_in rows.now)) }
-{
-    cut_to(heap, &columns[0..width.min(4)], rows)
-}
-
 // The numbers of a row in these columns.
 fn at_columns(heap: Global, columns: &[usize], row: &[u64]) -> Result<Vec<u64>, AllocError>
     ensures { IfOk result (λ v. v.items ≡ at_columns columns.now row.now) }
@@ -227,24 +206,5 @@ fn add_beside(
         wide.extend_from_slice(other.as_slice())?;
         out.push(wide)?;
     }
-    Ok(())
-}
-
-// Adds copies of the rows.
-fn add_rows(heap: Global, out: &mut Vec<Vec<u64>>, rows: &[Vec<u64>]) -> Result<(), AllocError>
-    ensures { OnOk result (rows_of out.new ≡ rows_of out.old ++ rows_in rows.now) }
-{
-    for row in rows {
-        add_row(heap, out, row.as_slice())?;
-    }
-    Ok(())
-}
-
-// Adds a copy of a row.
-fn add_row(heap: Global, out: &mut Vec<Vec<u64>>, row: &[u64]) -> Result<(), AllocError>
-    ensures { OnOk result (rows_of out.new ≡ rows_of out.old ++ row.now ∷ []) }
-{
-    let copy = Vec::from_slice(heap, row)?;
-    out.push(copy)?;
     Ok(())
 }

@@ -4,10 +4,12 @@
 ghost use Rattle.query.specs.Reading.{FewLines};
 
 mod asking;
+mod columns;
 mod question;
 mod reading;
 
 pub use asking::stands;
+pub use columns::Columns;
 pub use question::Question;
 
 // What a row may be tested for.
@@ -28,8 +30,7 @@ pub enum Sign {
     // The rows of a list.
     Rows(usize),
     Keep(Test),
-    // Of these columns as many as the part is wide.
-    Columns([usize; 4]),
+    Columns(Columns),
     Join(usize),
     Union(usize),
     Without(usize),

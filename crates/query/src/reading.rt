@@ -1,13 +1,13 @@
 // Signs read into the parts of a question.
-ghost use Rattle.std.specs.Prelude.{◌≡◌, ℕ, ◌+◌, ◌*◌, ◌^◌, ◌<◌, ◌≤◌, true, false, List, length, take, drop, MatchOption, MatchResult, slice_index};
+ghost use Rattle.std.specs.Prelude.{◌≡◌, ℕ, ◌+◌, ◌*◌, ◌^◌, ◌<◌, ◌≤◌, true, false, List, length, drop, MatchOption, MatchResult, slice_index};
 ghost use Rattle.condition.specs.declared.Refusal.TheVariants.{BadQuestion};
 ghost use Rattle.list.specs.Shapes.{shape_of};
-ghost use Rattle.query.specs.Reading.{sign_in, reads, bad, all_below, test_fits};
+ghost use Rattle.query.specs.Reading.{sign_in, reads, bad, test_fits};
 ghost use Rattle.query.specs.Shapes.{test_of, pairs_of};
 ghost use Rattle.query.specs.Parts.{Reads};
 ghost use Rattle.query.specs.Tokens.{TokenIs, list_part, one_fits, one_part, pair_fits, pair_part};
 
-use crate::{Part, Sign, Test};
+use crate::{Columns, Part, Sign, Test};
 use condition::Refusal;
 use list::Shapes;
 
@@ -22,8 +22,8 @@ enum Token {
 #[derive(Clone, Copy)]
 enum One {
     Test(Test),
-    // How many columns, and which.
-    Cut(usize, [usize; 4]),
+    // Which columns; none where they are not one to four.
+    Cut(Option<Columns>),
 }
 
 #[derive(Clone, Copy)]
@@ -46,10 +46,10 @@ fn token_at(signs: &[u64]) -> Option<Token>
         2 => Some(Token::Single(One::Test(Test::Differ(a, b)))),
         3 => Some(Token::Single(One::Test(Test::Is(a, signs[2])))),
         4 => Some(Token::Single(One::Test(Test::IsNot(a, signs[2])))),
-        5 => Some(Token::Single(One::Cut(
-            a,
-            [b, signs[3] as usize, signs[4] as usize, signs[5] as usize],
-        ))),
+        5 => {
+            let places = [b, signs[3] as usize, signs[4] as usize, signs[5] as usize];
+            Some(Token::Single(One::Cut(Columns::of(places, a))))
+        }
         6 => Some(Token::Double(Pair::Joined)),
         7 => Some(Token::Double(Pair::United)),
         8 => Some(Token::Double(Pair::Less)),
@@ -81,9 +81,7 @@ pub(crate) fn read<'a>(
     if left == 0 || signs.len() < 6 {
         return Err(bad);
     }
-    let Some(token) = token_at(signs) else {
-        return Err(bad);
-    };
+    let token = token_at(signs).ok_or(bad)?;
     let behind = &signs[6..];
     match token {
         Token::Listed(t) => {
@@ -116,14 +114,6 @@ fn test_fits(test: Test, w: usize) -> bool
     }
 }
 
-// Whether the first k columns are columns of a question that is w wide.
-fn columns_fit(columns: [usize; 4], k: usize, w: usize) -> bool
-    requires { k ≤ 4 }
-    ensures { result ≡ all_below w (take k columns) }
-{
-    columns[..k].iter().all(|a| *a < w)
-}
-
 // The part of a list, if there is such a list.
 fn list_part(t: usize, shapes: &Shapes) -> Option<Part>
     ensures { MatchOption result (shapes.now.count ≤ t) (λ p. (t < shapes.now.count) × (p ≡ list_part t (shape_of shapes.now t))) }
@@ -149,11 +139,11 @@ fn one_part(one: One, p: Part) -> Option<Part>
             cost: p.cost + 3 * p.lines,
             ..p
         }),
-        One::Cut(k, columns) => {
-            let fits = k >= 1 && k <= 4 && columns_fit(columns, k, p.width);
-            fits.then_some(Part {
+        One::Cut(columns) => {
+            let columns = columns?;
+            columns.fit(p.width).then_some(Part {
                 sign: Sign::Columns(columns),
-                width: k,
+                width: columns.as_slice().len(),
                 ..p
             })
         }

@@ -1,22 +1,17 @@
-use Rattle.std.proofs.Common.{◌≡◌, ◌∙◌, true, false, sym, refl, drop, arith}
-use Rattle.query.specs.Rows.{rows_in}
-use Rattle.query.proofs.Added.{added_one}
-use Rattle.query.proofs.Filtered.{filter_first}
-use Rattle.query.proofs.Left.{rows_more}
+use Rattle.std.proofs.Common.{vec_items, rules, tests}
+use Rattle.std.proofs.lemmas.Iterator.{YieldsList-from_slice}
+use Rattle.std.proofs.lemmas.Iterator.Consumers.{YieldsList-from_filter, YieldsList-at}
+use Rattle.std.specs.List.{each_same}
+use Rattle.query.proofs.Collected.{rows_from_try_collect}
+use Rattle.query.proofs.Filtered.{filter_rows}
+use Rattle.query.proofs.Told.{made_as}
 use Rattle.query.proofs.asking.filtered.Goals as goal
-use Rattle.query.proofs.asking.filtered.Goals.{then-keep+in_ok-add_row, else-keep}
 
-pub loop-row-preserved : goal.loop-row-preserved
-loop-row-preserved g c test h =
-    let left = rows_in (drop c.loop-row.row-index c.args.rows.now) in
-    let m = rows_more c.args.rows.now c.loop-row.row-index c.row-item.result c.as_slice-numbers.result.now (omega arith) c.row-item.is c.as_slice-numbers.ensures.value in
-    let f = filter_first test c.as_slice-numbers.result.now left _ m in
-    let k : c.keep.result ≡ test c.as_slice-numbers.result.now = h c.as_slice-numbers.result c.keep.result c.keep.ensures in
-    elim c.if-keep.branch [
-      | then-keep+in_ok-add_row w ↦
-          let p : test c.as_slice-numbers.result.now ≡ true = sym k ∙ w.if-keep.true in
-          rw w.out-is (added_one _ _ _ _ _ _ (c.loop-row.invariant test h) (f ∙ rw p refl) w.in_ok-add_row.ensures)
-      | else-keep w ↦
-          let p : test c.as_slice-numbers.result.now ≡ false = sym k ∙ w.if-keep.false in
-          rw (w.out-is, ← c.loop-row.invariant test h, f, p) refl
-    ]
+pub returns : goal.returns
+returns g c test h =
+    made_as c.try_collect.result
+    (rows_from_try_collect _ vec_items c.try_collect.result c.try_collect.ensures.ran
+    (YieldsList-at c.map.ensures.source
+    (YieldsList-from_filter _ (λ v. test (vec_items v)) (YieldsList-from_slice c.args.rows.now (rw c.filter.ensures.source c.iter.ensures.rest)) c.filter.ensures.closure (λ x b q k. search (rules, tests))))
+    c.map.ensures.closure (λ x r q k. search (rules, tests, each_same)))
+    (filter_rows test c.args.rows.now)

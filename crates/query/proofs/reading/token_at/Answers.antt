@@ -1,5 +1,5 @@
-use Rattle.std.proofs.Common.{refl, arith}
-use Rattle.query.proofs.Tokens.{list_sign, same_sign, differ_sign, is_sign, is_not_sign, columns_sign, join_sign, union_sign, without_sign, other_sign, four}
+use Rattle.std.proofs.Common.{arith}
+use Rattle.query.proofs.Tokens.{list_sign, same_sign, differ_sign, is_sign, is_not_sign, columns_sign, join_sign, union_sign, without_sign, other_sign, four, cut_is}
 use Rattle.query.proofs.reading.token_at.Goals as goal
 
 pub returns-in-0 : goal.returns-in-0
@@ -18,7 +18,7 @@ pub returns-in-4 : goal.returns-in-4
 returns-in-4 c = is_not_sign c.args.signs.now (omega arith)
 
 pub returns-in-5 : goal.returns-in-5
-returns-in-5 c = (refl, (_, columns_sign c.args.signs.now (omega arith), λ l. four c.args.signs.now _ c.requires l))
+returns-in-5 c = (_, _, columns_sign c.args.signs.now (omega arith), cut_is c.of.result _ _ _ c.of.ensures (λ l. four c.args.signs.now _ c.requires l))
 
 pub returns-in-6 : goal.returns-in-6
 returns-in-6 c = join_sign c.args.signs.now (omega arith)
