@@ -1,5 +1,5 @@
 -- A question that was read into parts has a plan that fits, with its lines, its width, its cost and its answer.
-use Rattle.std.proofs.Common.{◌≡◌, ℕ, zero, suc, ◌+◌, ◌-◌, ◌*◌, ◌<◌, ◌≤◌, true, ltb, List, [], ◌∷◌, length, get_or, take, drop, None, sym, refl, ap, ◌∙◌, subst, mul_assoc, arith, length-take}
+use Rattle.std.proofs.Common.{◌≡◌, ℕ, zero, suc, ◌+◌, ◌-◌, ◌*◌, ◌<◌, ◌≤◌, true, ltb, List, [], ◌∷◌, length, get_or, drop, None, sym, refl, ap, ◌∙◌, subst, mul_assoc, arith, length-take}
 use Rattle.std.proofs.lemmas.Bool.{ltb-true, and_parts}
 use Rattle.condition.specs.Store.{has_name}
 use Rattle.list.specs.Layout.{line_size, list_size, shapes_in, shapes, all_in, named_below}
@@ -8,7 +8,7 @@ use Rattle.list.specs.declared.shapes.Shapes.{Shapes}
 use Rattle.list.proofs.Reading.{line_named, line_cell_named}
 use Rattle.query.specs.Ask.{Test, same, differ, is, is_not}
 use Rattle.query.specs.Reading.{Sized, all_below, test_fits}
-use Rattle.query.specs.Shapes.{test_of, part_at}
+use Rattle.query.specs.Shapes.{test_of, columns_of, part_at}
 use Rattle.query.specs.Parts.{sized_by, sized_of, FitsBy, NeedsBy, Parted}
 use Rattle.query.specs.declared.Sign.{Sign}
 use Rattle.query.specs.declared.Sign.TheVariants.{Rows, Keep, Columns, Join, Union, Without}
@@ -39,7 +39,7 @@ below_at w (d ∷ cs) h (suc a) l = below_at w cs (and_parts (ltb d w) (all_belo
 some_needs : (g : Sign) (u : ℕ) (P : ℕ → ℕ → Type 0) → NeedsBy g u P → 0 < u
 some_needs (Rows t) u P n = omega arith
 some_needs (Keep t) u P n = omega (arith, n.0)
-some_needs (Columns cs) u P n = omega (arith, n.0)
+some_needs (Columns c) u P n = omega (arith, n.0)
 some_needs (Join k) u P n = omega (arith, n.1)
 some_needs (Union k) u P n = omega (arith, n.1)
 some_needs (Without k) u P n = omega (arith, n.1)
@@ -65,9 +65,9 @@ module _ (ls : List ℕ) (sh : Shapes) (shaped : AllShaped ls sh) (c : ℕ) (nam
         named = λ i a m o. let k = at + i * line_size w in subst (λ z. has_name z ≡ true) (cell_at_line (drop k ls) ls k a refl) (line_cell_named n w i a at ls (drop k ls) m o refl s.cells);
       }
 
-  module _ (w u : ℕ) (f : ℕ → Sized) (h : ℕ → Plan) (C : ℕ → Type 0) (Q : ℕ → ℕ → Type 0)
+  module _ (u : ℕ) (f : ℕ → Sized) (h : ℕ → Plan) (C : ℕ → Type 0) (Q : ℕ → ℕ → Type 0)
       (below : (i v : ℕ) → Q i v → (f i).cost ≤ 65536 → Meets (f i) (h i) × C i) where
-    by_sign : (g : Sign) → (sized_by g w (shapes ls) f).cost ≤ 65536 → FitsBy g w (shapes ls) f → NeedsBy g u Q → Meets (sized_by g w (shapes ls) f) (plan_by g w sh h) × BelowBy g sh C
+    by_sign : (g : Sign) → (sized_by g (shapes ls) f).cost ≤ 65536 → FitsBy g (shapes ls) f → NeedsBy g u Q → Meets (sized_by g (shapes ls) f) (plan_by g sh h) × BelowBy g sh C
     unfolding answer answer_to many wide size Fits
     by_sign (Rows t) x y z =
         let l : t < sh.count = omega (arith, shaped.count, length_shapes (get_or ls 0 0) (drop 2 ls), y) in
@@ -85,18 +85,18 @@ module _ (ls : List ℕ) (sh : Shapes) (shaped : AllShaped ls sh) (c : ℕ) (nam
           },
           m.1,
         )
-    by_sign (Columns cs) x y z =
+    by_sign (Columns d) x y z =
         let m = below 1 (u - 1) z.1 (omega arith) in let p = m.0 in
-        let e : w ≡ length (take w cs) = rw length-take (omega (arith, y.0, y.2)) in (
+        let e : d.count ≡ length (columns_of d) = rw length-take (omega (arith, d.four, d.few)) in (
           record {
-            fits = (below_at (wide (h 1)) (take w cs) (subst (λ q. all_below q (take w cs) ≡ true) p.width y.3), p.fits);
+            fits = (below_at (wide (h 1)) (columns_of d) (subst (λ q. all_below q (columns_of d) ≡ true) p.width y), p.fits);
             lines = p.lines;
             width = e;
             cost = p.cost;
-            narrow = omega (arith, e, y.2);
-            answers = λ ns. ap (cut_lines (take w cs)) (p.answers ns);
+            narrow = omega (arith, e, d.few);
+            answers = λ ns. ap (cut_lines (columns_of d)) (p.answers ns);
           },
-          (y.0, m.1),
+          m.1,
         )
     by_sign (Join k) x y z =
         let m = below 1 (k - 1) z.2 (omega arith) in let n = below k (u - k) z.3 (omega arith) in let p = m.0 in let q = n.0 in (
@@ -139,7 +139,7 @@ module _ (ls : List ℕ) (sh : Shapes) (shaped : AllShaped ls sh) (c : ℕ) (nam
   unfolding sized_of Parted plan_of Counted
   planned zero u ps p l = absurd p
   planned (suc n) u ps p l =
-      let m = by_sign (part_at ps 0).width u (λ i. sized_of n (shapes ls) (drop i ps)) (λ i. plan_of n sh (drop i ps)) (λ i. Counted n sh (drop i ps)) (λ i v. Parted n (shapes ls) v (drop i ps))
+      let m = by_sign u (λ i. sized_of n (shapes ls) (drop i ps)) (λ i. plan_of n sh (drop i ps)) (λ i. Counted n sh (drop i ps)) (λ i v. Parted n (shapes ls) v (drop i ps))
       (λ i v q k. planned n v (drop i ps) q k) (part_at ps 0).sign l p.2 p.3 in
       let s = m.0 in let o = p.1 in (
         s,

@@ -1,6 +1,7 @@
 -- Lines written one after the other, and what they are.
-use Rattle.std.proofs.Common.{◌≡◌, ℕ, suc, ◌+◌, ◌*◌, ◌≤◌, List, length, get_or, drop, sym, refl, ap, ◌∙◌, subst, inl, inr, suc-mul, add-one, arith, length-drop}
-use Rattle.std.proofs.lemmas.List.{get_or-drop, ext_get_or}
+use Rattle.std.proofs.Common.{rules, ◌≡◌, ℕ, suc, ◌+◌, ◌*◌, ◌<◌, ◌≤◌, List, length, get_or, drop, sym, refl, ap, ◌∙◌, subst, inl, inr, suc-mul, add-one, arith, length-drop}
+use Rattle.std.proofs.lemmas.List.{get_or-drop, ext_get_or, places}
+use borrow.Rule.Slice.PartMut.{put_mid}
 use Rattle.std.proofs.lemmas.Bool.{cases_lt}
 use Rattle.condition.specs.Cond.{Cell}
 use Rattle.condition.specs.Store.{cell_in, cond_at, count, Grown}
@@ -16,20 +17,31 @@ use Rattle.answer.proofs.Steps.{row}
 use Rattle.answer.proofs.Views.{says_grown}
 
 -- one line more
-pub written_more : (node : ℕ → ℕ) (cells : ℕ → ℕ → Cell) (w n : ℕ) (xs ys zs : List ℕ) → Written node cells w n xs ys → Put (node n) (cells n) w (n * line_size w) ys zs → Written node cells w (n + 1) xs zs
-written_more node cells w n xs ys zs a p = record {
-  long = p.long ∙ a.long;
-  head = λ i l. elim (cases_lt i n) [
-    | inl m ↦ p.before (i * line_size w) (omega (arith, row i n (line_size w) m)) ∙ a.head i m
-    | inr m ↦ let e : n ≡ i = omega arith in subst (λ t. get_or zs (t * line_size w) 0 ≡ node t) e p.head
-  ];
-  body = λ i l b h. elim (cases_lt i n) [
-    | inl m ↦ let r = row i n (line_size w) m in
-        rw (p.before (i * line_size w + 1 + 2 * b) (omega arith), p.before (i * line_size w + 1 + 2 * b + 1) (omega arith)) (a.body i m b h)
-    | inr m ↦ let e : n ≡ i = omega arith in subst (λ t. cell_in (get_or zs (t * line_size w + 1 + 2 * b) 0) (get_or zs (t * line_size w + 1 + 2 * b + 1) 0) ≡ cells t b) e (p.body b h)
-  ];
-  past = λ k l. let m : suc n * line_size w ≤ k = rw add-one at l in let s = suc-mul n (line_size w) in p.past k (omega arith) ∙ a.past k (omega arith);
-}
+pub written_more : (node : ℕ → ℕ) (cells : ℕ → ℕ → Cell) (w n at s : ℕ) (xs ys zs : List ℕ) → at ≡ n * line_size w → s ≡ line_size w → at + s ≤ length ys → length zs ≡ s
+    → Written node cells w n xs ys → Put (node n) (cells n) w zs → Written node cells w (n + 1) xs (put_mid at s ys zs)
+written_more node cells w n at s xs ys zs u v q e a p =
+    let old : (k : ℕ) → k < at → get_or (put_mid at s ys zs) k 0 ≡ get_or ys k 0 = λ k l. search (rules, places) in
+    let new : (j : ℕ) → j < s → get_or (put_mid at s ys zs) (at + j) 0 ≡ get_or zs j 0 = λ j l. search (rules, places) in
+    let rest : (k : ℕ) → at + s ≤ k → get_or (put_mid at s ys zs) k 0 ≡ get_or ys k 0 = λ k l. search (rules, places) in
+    let size : length (put_mid at s ys zs) ≡ length ys = search (rules, places) in
+    record {
+      long = size ∙ a.long;
+      head = λ i l. elim (cases_lt i n) [
+        | inl m ↦ old (i * line_size w) (omega (arith, row i n (line_size w) m)) ∙ a.head i m
+        | inr m ↦ let t : n ≡ i = omega arith in let z : n * line_size w ≡ at + 0 = omega arith in
+            subst (λ t. get_or (put_mid at s ys zs) (t * line_size w) 0 ≡ node t) t (rw z (new 0 (omega arith) ∙ p.head))
+      ];
+      body = λ i l b h. elim (cases_lt i n) [
+        | inl m ↦ let r = row i n (line_size w) m in
+            rw (old (i * line_size w + 1 + 2 * b) (omega arith), old (i * line_size w + 1 + 2 * b + 1) (omega arith)) (a.body i m b h)
+        | inr m ↦ let t : n ≡ i = omega arith in
+            let x : n * line_size w + 1 + 2 * b ≡ at + (1 + 2 * b) = omega arith in
+            let y : n * line_size w + 1 + 2 * b + 1 ≡ at + (1 + 2 * b + 1) = omega arith in
+            subst (λ t. cell_in (get_or (put_mid at s ys zs) (t * line_size w + 1 + 2 * b) 0) (get_or (put_mid at s ys zs) (t * line_size w + 1 + 2 * b + 1) 0) ≡ cells t b) t
+            (rw (y, x, new (1 + 2 * b) (omega arith), new (1 + 2 * b + 1) (omega arith)) (p.body b h))
+      ];
+      past = λ k l. let m : suc n * line_size w ≤ k = rw add-one at l in let r = suc-mul n (line_size w) in rest k (omega arith) ∙ a.past k (omega arith);
+    }
 
 -- what is written is the answer
 pub written_says : (s : Side) (ns ns₁ ns₂ xs ys : List ℕ) → s.asked.first ≤ count ns → Grown ns ns₁ → Laid s ns₁ ns₂

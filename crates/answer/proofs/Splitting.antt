@@ -1,14 +1,16 @@
 -- What the sign of a question says of its plan and of the questions below it.
-use Rattle.std.proofs.Common.{◌≡◌, ℕ, zero, suc, ◌+◌, ◌-◌, ◌<◌, ◌≤◌, min, List, length, take, drop, refl, ap, ◌∙◌, subst, arith, length-drop, length-take}
+use Rattle.std.proofs.Common.{◌≡◌, ℕ, zero, suc, ◌+◌, ◌-◌, ◌<◌, ◌≤◌, List, length, get_or, drop, refl, ap, ◌∙◌, subst, arith, length-drop}
+use Rattle.std.proofs.lemmas.List.{get_or_default}
 use Rattle.list.specs.Shapes.{shape_of}
 use Rattle.list.specs.declared.shapes.Shapes.{Shapes}
-use Rattle.query.specs.Shapes.{test_of, part_at}
+use Rattle.query.specs.Shapes.{test_of, columns_of, no_part, part_at}
 use Rattle.query.specs.declared.Test.{Test}
 use Rattle.query.specs.declared.Sign.{Sign}
 use Rattle.query.specs.declared.Sign.TheVariants.{Rows, Keep, Columns, Join, Union, Without}
 use Rattle.query.specs.declared.Part.{Part}
+use Rattle.query.specs.declared.columns.Columns as chosen
 use Rattle.answer.specs.declared.side.Side.{Side}
-use Rattle.answer.specs.Plan.{Plan, list, keep, columns, join, union, without, wide, size, Fits}
+use Rattle.answer.specs.Plan.{Plan, list, keep, columns, join, union, without, size, Fits}
 use Rattle.answer.specs.Planned.{plan_by, plan_of, Numbers, BelowBy, Counted}
 use Rattle.answer.specs.Sides.{plan, below, Begins}
 
@@ -18,7 +20,7 @@ none zero sh ps e c = c
 none (suc n) sh ps e c = omega arith
 
 unrolled : (n : ℕ) (sh : Shapes) (ps : List Part) → (n ≡ 0 → ⊥) →
-    plan_of n sh ps ≡ plan_by (part_at ps 0).sign (part_at ps 0).width sh (λ i. plan_of (n - 1) sh (drop i ps))
+    plan_of n sh ps ≡ plan_by (part_at ps 0).sign sh (λ i. plan_of (n - 1) sh (drop i ps))
 unfolding plan_of
 unrolled zero sh ps h = absurd (h refl)
 unrolled (suc n) sh ps h = let e : suc n - 1 ≡ n = omega arith in rw e refl
@@ -55,47 +57,52 @@ module _ (s : Side) where
   pub numbers : Numbers (part_at s.parts.now 0) (plan s)
   numbers = (counted s.left s.asked.shapes.now s.parts.now s.sound.counted).1
 
+  -- the same of the first part, as it is read
+  pub read_numbers : (d : Part) → Numbers (get_or s.parts.now 0 d) (plan s)
+  read_numbers d = rw (get_or_default s.parts.now 0 d no_part some_parts) numbers
+
   begins : (k b : ℕ) → Counted (s.left - 1) s.asked.shapes.now (drop k s.parts.now) → Fits s.asked.lists.now s.asked.first (below s k) → b + size (below s k) ≤ 1000000 → Begins s k b
   begins k b c f l = record { sound = record { counted = c; fits = f }; low = l }
 
-  module _ (g : Sign) (is : (part_at s.parts.now 0).sign ≡ g) where
-    plan_is : plan s ≡ plan_by g (part_at s.parts.now 0).width s.asked.shapes.now (below s)
-    plan_is = unrolled s.left s.asked.shapes.now s.parts.now some_left ∙ ap (λ z. plan_by z (part_at s.parts.now 0).width s.asked.shapes.now (below s)) is
+  module _ (d : Part) (g : Sign) (e : (get_or s.parts.now 0 d).sign ≡ g) where
+    is : (part_at s.parts.now 0).sign ≡ g
+    is = rw (get_or_default s.parts.now 0 no_part d some_parts) e
+
+    plan_is : plan s ≡ plan_by g s.asked.shapes.now (below s)
+    plan_is = unrolled s.left s.asked.shapes.now s.parts.now some_left ∙ ap (λ z. plan_by z s.asked.shapes.now (below s)) is
 
     counts : BelowBy g s.asked.shapes.now (λ i. Counted (s.left - 1) s.asked.shapes.now (drop i s.parts.now))
     counts = subst (λ z. BelowBy z s.asked.shapes.now (λ i. Counted (s.left - 1) s.asked.shapes.now (drop i s.parts.now))) is (counted s.left s.asked.shapes.now s.parts.now s.sound.counted).2
 
-    fits : Fits s.asked.lists.now s.asked.first (plan_by g (part_at s.parts.now 0).width s.asked.shapes.now (below s))
+    fits : Fits s.asked.lists.now s.asked.first (plan_by g s.asked.shapes.now (below s))
     fits = subst (Fits s.asked.lists.now s.asked.first) plan_is s.sound.fits
 
-  pub rows : (t : ℕ) → (part_at s.parts.now 0).sign ≡ Rows t →
+  pub rows : (d : Part) (t : ℕ) → (get_or s.parts.now 0 d).sign ≡ Rows t →
       (plan s ≡ list (shape_of s.asked.shapes.now t).at (shape_of s.asked.shapes.now t).lines (shape_of s.asked.shapes.now t).width)
       × (t < s.asked.shapes.now.count) × (s.asked.shapes.now.count ≤ 8)
-  rows t e = (plan_is (Rows t) e, (counts (Rows t) e).0, (counts (Rows t) e).1)
+  rows d t e = (plan_is d (Rows t) e, (counts d (Rows t) e).0, (counts d (Rows t) e).1)
 
-  pub kept : (t : Test) → (part_at s.parts.now 0).sign ≡ Keep t → OneBegins s (keep (test_of t) (below s 1))
+  pub kept : (d : Part) (t : Test) → (get_or s.parts.now 0 d).sign ≡ Keep t → OneBegins s (keep (test_of t) (below s 1))
   unfolding Fits size
-  kept t e = let p = plan_is (Keep t) e in let z = ap size p in
-      record { is = p; first = begins 1 s.base (counts (Keep t) e) (fits (Keep t) e).1 (omega (arith, z, s.low)) }
+  kept d t e = let p = plan_is d (Keep t) e in let z = ap size p in
+      record { is = p; first = begins 1 s.base (counts d (Keep t) e) (fits d (Keep t) e).1 (omega (arith, z, s.low)) }
 
-  pub cut : (cs : List ℕ) → (part_at s.parts.now 0).sign ≡ Columns cs → OneBegins s (columns (take (part_at s.parts.now 0).width cs) (below s 1)) × (length cs ≡ 4) × ((part_at s.parts.now 0).width ≤ 4)
-  unfolding Fits wide size
-  cut cs e =
-      let p = plan_is (Columns cs) e in let z = ap size p in let c = counts (Columns cs) e in
-      let w : (part_at s.parts.now 0).width ≡ min (part_at s.parts.now 0).width (length cs) = numbers.width ∙ (ap wide p ∙ length-take (part_at s.parts.now 0).width cs) in
-      (record { is = p; first = begins 1 s.base c.1 (fits (Columns cs) e).1 (omega (arith, z, s.low)) }, c.0, omega (arith, w, c.0))
-
-  pub joined : (k : ℕ) → (part_at s.parts.now 0).sign ≡ Join k → TwoBegin s k (join (below s 1) (below s k))
+  pub cut : (d : Part) (c : chosen.Columns) → (get_or s.parts.now 0 d).sign ≡ Columns c → OneBegins s (columns (columns_of c) (below s 1))
   unfolding Fits size
-  joined k e = let p = plan_is (Join k) e in let z = ap size p in let c = counts (Join k) e in let f = fits (Join k) e in
+  cut d c e = let p = plan_is d (Columns c) e in let z = ap size p in
+      record { is = p; first = begins 1 s.base (counts d (Columns c) e) (fits d (Columns c) e).1 (omega (arith, z, s.low)) }
+
+  pub joined : (d : Part) (k : ℕ) → (get_or s.parts.now 0 d).sign ≡ Join k → TwoBegin s k (join (below s 1) (below s k))
+  unfolding Fits size
+  joined d k e = let p = plan_is d (Join k) e in let z = ap size p in let c = counts d (Join k) e in let f = fits d (Join k) e in
       record { is = p; first = begins 1 s.base c.0 f.0 (omega (arith, z, s.low)); second = begins k _ c.1 f.1 (omega (arith, z, s.low)) }
 
-  pub united : (k : ℕ) → (part_at s.parts.now 0).sign ≡ Union k → TwoBegin s k (union (below s 1) (below s k))
+  pub united : (d : Part) (k : ℕ) → (get_or s.parts.now 0 d).sign ≡ Union k → TwoBegin s k (union (below s 1) (below s k))
   unfolding Fits size
-  united k e = let p = plan_is (Union k) e in let z = ap size p in let c = counts (Union k) e in let f = fits (Union k) e in
+  united d k e = let p = plan_is d (Union k) e in let z = ap size p in let c = counts d (Union k) e in let f = fits d (Union k) e in
       record { is = p; first = begins 1 s.base c.0 f.1 (omega (arith, z, s.low)); second = begins k _ c.1 f.2 (omega (arith, z, s.low)) }
 
-  pub lessened : (k : ℕ) → (part_at s.parts.now 0).sign ≡ Without k → TwoBegin s k (without (below s 1) (below s k))
+  pub lessened : (d : Part) (k : ℕ) → (get_or s.parts.now 0 d).sign ≡ Without k → TwoBegin s k (without (below s 1) (below s k))
   unfolding Fits size
-  lessened k e = let p = plan_is (Without k) e in let z = ap size p in let c = counts (Without k) e in let f = fits (Without k) e in
+  lessened d k e = let p = plan_is d (Without k) e in let z = ap size p in let c = counts d (Without k) e in let f = fits d (Without k) e in
       record { is = p; first = begins 1 s.base c.0 f.1 (omega (arith, z, s.low)); second = begins k _ c.1 f.2 (omega (arith, z, s.low)) }

@@ -1,9 +1,10 @@
 -- What asking a question leaves behind, over the numbers that it is passed.
 --
+--   room_size cost                            how many numbers asking a question of that cost may write behind the nodes that stand
 --   ask_told lists signs nodes out            what is told, the first number of the list that applies
 --   AskSays lists signs nodes out r ns os    what the reply is, and what the store and the answer's slice hold after
 --   Stays lists nodes ns                      the lists and all conditions that stood mean what they meant
-use Rattle.std.specs.Prelude.{◌≡◌, ℕ, ◌+◌, ◌*◌, ◌<◌, ◌≤◌, List, length, drop, Result, Ok, Err, Some, None, nat_le}
+use Rattle.std.specs.Prelude.{◌≡◌, ℕ, ◌+◌, ◌*◌, ◌<◌, ◌≤◌, min, List, length, drop, Result, Ok, Err, Some, None, nat_le}
 use Rattle.condition.specs.Refusals.{Told, told, first, unless}
 use Rattle.condition.specs.Store.{count, cond_at, store_told, room_told, Grown}
 use Rattle.condition.specs.declared.Refusal.{Refusal}
@@ -24,6 +25,10 @@ parts_size lists parts = sized_of 16 (shapes lists) parts
 -- how many numbers its answer takes
 abbrev pub answer_size : Sized → ℕ
 answer_size s = s.lines * line_size s.width
+
+-- asking a question adds at most its cost and two nodes, of five numbers each; no question that is answered costs more than 65,536
+abbrev pub room_size : ℕ → ℕ
+room_size cost = 5 * (min cost 65536 + 2)
 
 abbrev pub ask_told : (lists signs nodes out : List ℕ) → Told
 ask_told lists signs nodes out =

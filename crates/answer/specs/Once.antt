@@ -50,7 +50,7 @@ Numbers-prop a b = λ i. record {
 BelowBy-prop : (g : Sign) (sh : Shapes) (go : ℕ → Type 0) → ((i : ℕ) → IsProp (go i)) → IsProp (BelowBy g sh go)
 BelowBy-prop (Rows t) sh go one = ×_prop le_prop le_prop
 BelowBy-prop (Keep t) sh go one = one 1
-BelowBy-prop (Columns cs) sh go one = ×_prop (number _ _) (one 1)
+BelowBy-prop (Columns c) sh go one = one 1
 BelowBy-prop (Join second) sh go one = ×_prop (one 1) (one second)
 BelowBy-prop (Union second) sh go one = ×_prop (one 1) (one second)
 BelowBy-prop (Without second) sh go one = ×_prop (one 1) (one second)

@@ -10,7 +10,7 @@ ghost use Rattle.answer.specs.Promise.{Answers};
 
 use crate::side::{Asked, Side};
 use condition::{Node, Refusal, add, room};
-use list::{Shapes, check};
+use list::{Shapes, check, line_size};
 use query::Question;
 
 // Answers a question with gaps, and tells how many lines the answer has: nodes are laid behind those that stand, at most the
@@ -36,7 +36,7 @@ fn checked(lists: &[u64], signs: &[u64], nodes: &[u64], out: &[u64]) -> Result<Q
     if room < question.cost() + 2 {
         return Err(Refusal::StoreFull(room));
     }
-    let size = question.lines() as usize * (1 + 2 * question.width());
+    let size = question.lines() as usize * line_size(question.width());
     if out.len() < size {
         return Err(Refusal::AnswerTooShort(out.len() as u64));
     }

@@ -11,12 +11,14 @@ ghost use Rattle.answer.specs.Baptisms.{Table, FalseAnswers};
 mod asking;
 mod laying;
 mod less;
+mod memory;
 mod places;
 mod side;
 mod split;
 mod writing;
 
 pub use asking::ask;
+pub use memory::with_room;
 
 // Theorems about answers: see specs/Promise.antt.
 

@@ -8,7 +8,6 @@ ghost use Rattle.answer.specs.Laid.{last_of};
 use crate::side::Side;
 use crate::split::Split;
 use condition::Cell;
-use list::{line, line_cell, line_node};
 
 impl Side<'_> {
     // The node of line i.
@@ -17,7 +16,7 @@ impl Side<'_> {
         ensures { result ≡ node self.now i }
     {
         match self.split() {
-            Split::Rows(shape) => line_node(line(self.asked.lists, shape, i as usize)),
+            Split::Rows(shape) => shape.line(self.asked.lists, i as usize).node(),
             Split::Keep(..) => self.last(i, 3),
             Split::Columns(_, p) => p.place(i),
             Split::Join(..) => self.last(i, 1),
@@ -57,7 +56,7 @@ impl Side<'_> {
         ensures { cell_of result ≡ cells self.now i a }
     {
         match self.split() {
-            Split::Rows(shape) => line_cell(line(self.asked.lists, shape, i as usize), a),
+            Split::Rows(shape) => shape.line(self.asked.lists, i as usize).cell(a),
             Split::Keep(_, p) => p.cell(i, a),
             Split::Columns(columns, p) => p.cell(i, columns[a]),
             Split::Join(p, q) => {

@@ -24,13 +24,11 @@ impl<'a> Side<'a> {
     pub(crate) fn split(&self) -> Split<'a>
         ensures { Splits self.now result }
     {
-        let here = &self.parts[0];
-        match &here.sign {
+        match &self.parts[0].sign {
             Sign::Rows(t) => Split::Rows(self.asked.shapes.get(*t).unwrap()),
             Sign::Keep(test) => Split::Keep(*test, self.below(1, self.base)),
             Sign::Columns(columns) => {
-                let kept = &columns[..here.width];
-                Split::Columns(kept, self.below(1, self.base))
+                Split::Columns(columns.as_slice(), self.below(1, self.base))
             }
             Sign::Join(second) => {
                 let p = self.below(1, self.base);

@@ -8,6 +8,7 @@ ghost use Rattle.answer.specs.Sides.{plan, node, cells};
 ghost use Rattle.answer.specs.Written.{Put, Written};
 
 use crate::side::Side;
+use list::line_size;
 
 impl Side<'_> {
     // Writes the lines of a question whose nodes are laid.
@@ -15,22 +16,23 @@ impl Side<'_> {
         requires { many (plan self.now) * line_size (wide (plan self.now)) ≤ length out.old }
         ensures { Written (node self.now) (cells self.now) (wide (plan self.now)) (many (plan self.now)) out.old out.new }
     {
-        let size = 1 + 2 * self.width();
+        let size = line_size(self.width());
         for i in 0..self.lines() {
-            self.put_line(i, i as usize * size, out);
+            let at = i as usize * size;
+            self.put_line(i, &mut out[at..at + size]);
         }
     }
 
-    // Writes line i at a place.
-    fn put_line(&self, i: u64, at: usize, out: &mut [u64])
-        requires line { i < many (plan self.now) }
-        requires room { at + line_size (wide (plan self.now)) ≤ length out.old }
-        ensures { Put (node self.now i) (cells self.now i) (wide (plan self.now)) at out.old out.new }
+    // Writes line i, which is all of the slice.
+    fn put_line(&self, i: u64, line: &mut [u64])
+        requires stands { i < many (plan self.now) }
+        requires whole { length line.old ≡ line_size (wide (plan self.now)) }
+        ensures { Put (node self.now i) (cells self.now i) (wide (plan self.now)) line.new }
     {
-        out[at] = self.place(i);
+        line[0] = self.place(i);
         for a in 0..self.width() {
-            let at = at + 1 + 2 * a;
-            out[at..at + 2].copy_from_slice(&<[u64; 2]>::from(self.cell(i, a)));
+            let at = 1 + 2 * a;
+            line[at..at + 2].copy_from_slice(&<[u64; 2]>::from(self.cell(i, a)));
         }
     }
 }

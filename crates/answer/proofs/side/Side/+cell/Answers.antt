@@ -10,11 +10,11 @@ use Rattle.answer.proofs.side.Side.+cell.Goals as goal
 pub line-requires : goal.line-requires
 line-requires t c = let v = rows_sums c.args.self.now c.in-Rows.ensures in record { inside = omega (arith, v.lines); whole = (rows_listed c.args.self.now c.in-Rows.ensures).whole }
 
-pub line_cell-requires : goal.line_cell-requires
-line_cell-requires t c = let v = rows_sums c.args.self.now c.in-Rows.ensures in omega (arith, v.width, c.line.ensures.long)
-
 pub cell-requires : goal.cell-requires
-cell-requires t c = let v = keep_sums c.in-Keep.ensures in (omega (arith, c.in-Keep.ensures.first.fewer), (omega (arith, v.lines), omega (arith, v.width)))
+cell-requires t c = let v = rows_sums c.args.self.now c.in-Rows.ensures in omega (arith, v.width, c.line.ensures.width)
+
+pub cell-requires-in-Keep : goal.cell-requires-in-Keep
+cell-requires-in-Keep t c = let v = keep_sums c.in-Keep.ensures in (omega (arith, c.in-Keep.ensures.first.fewer), (omega (arith, v.lines), omega (arith, v.width)))
 
 pub bounds-columns-a : goal.bounds-columns-a
 bounds-columns-a t c = let v = columns_sums c.in-Columns.ensures in omega (arith, v.width)
@@ -53,11 +53,11 @@ cell-requires-in-Without t c = let v = without_sums c.in-Without.ensures in (ome
 
 pub returns-in-Rows : goal.returns-in-Rows
 unfolding cell
-returns-in-Rows t c = rw c.in-Rows.ensures (c.line_cell.ensures ∙ cell_at_line c.line.result.now c.args.self.now.asked.lists.now _ c.args.a c.line.ensures.is)
+returns-in-Rows t c = rw c.in-Rows.ensures (c.cell.ensures ∙ cell_at_line c.line.result.numbers.now c.args.self.now.asked.lists.now _ c.args.a c.line.ensures.is)
 
 pub returns-in-Keep : goal.returns-in-Keep
 unfolding cell
-returns-in-Keep t c = rw c.in-Keep.ensures.is (c.cell.ensures ∙ cells_under c.in-Keep.ensures.first _ _)
+returns-in-Keep t c = rw c.in-Keep.ensures.is (c.cell-in-Keep.ensures ∙ cells_under c.in-Keep.ensures.first _ _)
 
 pub returns-in-Columns : goal.returns-in-Columns
 unfolding cell

@@ -32,7 +32,7 @@ last-requires-else-others-eq0-clause-room t c = let v = without_sums c.in-Withou
 
 pub returns-in-Rows : goal.returns-in-Rows
 unfolding place
-returns-in-Rows t c = rw c.in-Rows.ensures (c.line_node.ensures ∙ node_at c.line.result.now c.args.self.now.asked.lists.now _ c.line.ensures.is)
+returns-in-Rows t c = rw c.in-Rows.ensures (c.node.ensures ∙ node_at c.line.result.numbers.now c.args.self.now.asked.lists.now _ c.line.ensures.is)
 
 pub returns-in-Keep : goal.returns-in-Keep
 unfolding place

@@ -7,61 +7,58 @@ pub bounds-self-0 : goal.bounds-self-0
 bounds-self-0 c = some_parts c.args.self.now
 
 pub unwrap-requires : goal.unwrap-requires
-unwrap-requires c = let r = rows c.args.self.now c.in-Rows.t c.in-Rows.is in grind (arith, r)
+unwrap-requires c = let r = rows c.args.self.now _ c.in-Rows.t c.in-Rows.is in grind (arith, r)
 
 pub below-requires : goal.below-requires
-below-requires c = (kept c.args.self.now c.in-Keep.test c.in-Keep.is).first
-
-pub shared_ref_as_front-kept : goal.shared_ref_as_front-kept
-shared_ref_as_front-kept c = (cut c.args.self.now c.in-Columns.columns c.in-Columns.is).2
+below-requires c = (kept c.args.self.now _ c.in-Keep.test c.in-Keep.is).first
 
 pub below-requires-in-Columns : goal.below-requires-in-Columns
-below-requires-in-Columns c = (cut c.args.self.now c.in-Columns.columns c.in-Columns.is).0.first
+below-requires-in-Columns c = (cut c.args.self.now _ c.in-Columns.columns c.in-Columns.is).first
 
 pub below-p-requires : goal.below-p-requires
-below-p-requires c = (joined c.args.self.now c.in-Join.second c.in-Join.is).first
+below-p-requires c = (joined c.args.self.now _ c.in-Join.second c.in-Join.is).first
 
 pub below-requires-in-Join : goal.below-requires-in-Join
-below-requires-in-Join c = let j = joined c.args.self.now c.in-Join.second c.in-Join.is in rw (c.end.ensures, c.below-p.ensures.under.base, c.below-p.ensures.is) j.second
+below-requires-in-Join c = let j = joined c.args.self.now _ c.in-Join.second c.in-Join.is in rw (c.end.ensures, c.below-p.ensures.under.base, c.below-p.ensures.is) j.second
 
 pub below-p-requires-in-Union : goal.below-p-requires-in-Union
-below-p-requires-in-Union c = (united c.args.self.now c.in-Union.second c.in-Union.is).first
+below-p-requires-in-Union c = (united c.args.self.now _ c.in-Union.second c.in-Union.is).first
 
 pub below-requires-in-Union : goal.below-requires-in-Union
-below-requires-in-Union c = let j = united c.args.self.now c.in-Union.second c.in-Union.is in rw (c.end-in-Union.ensures, c.below-p-in-Union.ensures.under.base, c.below-p-in-Union.ensures.is) j.second
+below-requires-in-Union c = let j = united c.args.self.now _ c.in-Union.second c.in-Union.is in rw (c.end-in-Union.ensures, c.below-p-in-Union.ensures.under.base, c.below-p-in-Union.ensures.is) j.second
 
 pub below-p-requires-in-Without : goal.below-p-requires-in-Without
-below-p-requires-in-Without c = (lessened c.args.self.now c.in-Without.second c.in-Without.is).first
+below-p-requires-in-Without c = (lessened c.args.self.now _ c.in-Without.second c.in-Without.is).first
 
 pub below-requires-in-Without : goal.below-requires-in-Without
-below-requires-in-Without c = let j = lessened c.args.self.now c.in-Without.second c.in-Without.is in rw (c.end-in-Without.ensures, c.below-p-in-Without.ensures.under.base, c.below-p-in-Without.ensures.is) j.second
+below-requires-in-Without c = let j = lessened c.args.self.now _ c.in-Without.second c.in-Without.is in rw (c.end-in-Without.ensures, c.below-p-in-Without.ensures.under.base, c.below-p-in-Without.ensures.is) j.second
 
 pub returns-in-Rows : goal.returns-in-Rows
-returns-in-Rows c = let r = rows c.args.self.now c.in-Rows.t c.in-Rows.is in let g = rw c.unwrap.ensures at c.get.ensures in rw g.1 r.0
+returns-in-Rows c = let r = rows c.args.self.now _ c.in-Rows.t c.in-Rows.is in let g = rw c.unwrap.ensures at c.get.ensures in rw g.1 r.0
 
 pub returns-in-Keep : goal.returns-in-Keep
-returns-in-Keep c = record { is = rw c.below.ensures.is (kept c.args.self.now c.in-Keep.test c.in-Keep.is).is; first = c.below.ensures.under }
+returns-in-Keep c = record { is = rw c.below.ensures.is (kept c.args.self.now _ c.in-Keep.test c.in-Keep.is).is; first = c.below.ensures.under }
 
 pub returns-in-Columns : goal.returns-in-Columns
-returns-in-Columns c = record { is = rw c.below-in-Columns.ensures.is (cut c.args.self.now c.in-Columns.columns c.in-Columns.is).0.is; first = c.below-in-Columns.ensures.under }
+returns-in-Columns c = record { is = rw (c.below-in-Columns.ensures.is, c.as_slice.ensures) (cut c.args.self.now _ c.in-Columns.columns c.in-Columns.is).is; first = c.below-in-Columns.ensures.under }
 
 pub returns-in-Join : goal.returns-in-Join
 returns-in-Join c = record {
-  is = rw (c.below-p.ensures.is, c.below-in-Join.ensures.is) (joined c.args.self.now c.in-Join.second c.in-Join.is).is;
+  is = rw (c.below-p.ensures.is, c.below-in-Join.ensures.is) (joined c.args.self.now _ c.in-Join.second c.in-Join.is).is;
   first = c.below-p.ensures.under;
   second = rw (c.end.ensures, c.below-p.ensures.under.base) at c.below-in-Join.ensures.under;
 }
 
 pub returns-in-Union : goal.returns-in-Union
 returns-in-Union c = record {
-  is = rw (c.below-p-in-Union.ensures.is, c.below-in-Union.ensures.is) (united c.args.self.now c.in-Union.second c.in-Union.is).is;
+  is = rw (c.below-p-in-Union.ensures.is, c.below-in-Union.ensures.is) (united c.args.self.now _ c.in-Union.second c.in-Union.is).is;
   first = c.below-p-in-Union.ensures.under;
   second = rw (c.end-in-Union.ensures, c.below-p-in-Union.ensures.under.base) at c.below-in-Union.ensures.under;
 }
 
 pub returns-in-Without : goal.returns-in-Without
 returns-in-Without c = record {
-  is = rw (c.below-p-in-Without.ensures.is, c.below-in-Without.ensures.is) (lessened c.args.self.now c.in-Without.second c.in-Without.is).is;
+  is = rw (c.below-p-in-Without.ensures.is, c.below-in-Without.ensures.is) (lessened c.args.self.now _ c.in-Without.second c.in-Without.is).is;
   first = c.below-p-in-Without.ensures.under;
   second = rw (c.end-in-Without.ensures, c.below-p-in-Without.ensures.under.base) at c.below-in-Without.ensures.under;
 }
