@@ -196,6 +196,10 @@ module _ (task : Task) where
           all : All (NoneFrom task (depth + 1) t) (next ++ x.added)
           all = rw x.behind at d
 
+  -- the rows that go on from a row are few
+  pub added_few : (depth : ℕ) → depth < length (tried task) → (r : Row) → Begun task depth r → (next next₁ : List Row) → length next + 14 ≤ 256 → Extended task depth r next next₁ → length next₁ ≤ 256
+  added_few depth deep r b next next₁ room x = rw x.behind (simp length-append (omega (arith, x.many, b.few, task.set_up.small, task.gaps.few)))
+
   -- a row that goes on
   pub one_more : (depth : ℕ) → depth < length (tried task) → (rows : List Row) (before : Met) (l : ℕ) (next : List Row) (met : Met) → Gathered depth rows before l next met → l < length rows
       → Begun task depth (get_or rows l blank) → (next₁ : List Row) → Extended task depth (get_or rows l blank) next next₁ → Gathered depth rows before (l + 1) next₁ met

@@ -9,6 +9,7 @@ pub mod Passing
 pub mod Places
 pub mod Noted
 pub mod Agreeing
+pub mod Looked
 pub mod Matched
 pub mod Surveyed
 pub mod Added

@@ -1,8 +1,8 @@
 -- A walk over the numbers that pass a test, and over the marked places.
-use Rattle.std.proofs.Common.{◌≡◌, ℕ, zero, suc, ◌+◌, ◌-◌, ◌<◌, ◌≤◌, Bool, true, false, cond as if, List, [], ◌∷◌, filter, length, get_or, Some, Option, refl, ap, ◌∙◌, inl, inr, arith}
+use Rattle.std.proofs.Common.{◌≡◌, ℕ, zero, suc, ◌+◌, ◌-◌, ◌<◌, ◌≤◌, Bool, true, false, cond as if, List, [], ◌∷◌, filter, length, get_or, Some, Option, sym, refl, ap, ◌∙◌, inl, inr, arith}
 use Rattle.std.specs.List.{range_with_len}
 use Rattle.std.specs.Iterator.{Yields, YieldsFirst}
-use Rattle.std.proofs.lemmas.Bool.{cases_lt}
+use Rattle.std.proofs.lemmas.Bool.{cases_Bool, cases_lt}
 use Rattle.std.proofs.lemmas.List.{get_or_default}
 use Rattle.std.proofs.lemmas.Iterator.Consumers.{YieldsList-from_first, YieldsList-turn}
 use Rattle.condition.specs.Cond.{has}
@@ -46,6 +46,57 @@ pub left_first : (p : ℕ → Bool) (at place n : ℕ) → at ≤ place → plac
 left_first p at place n a l y h =
     let e : at + (place - at) ≡ place = omega arith in
     rw e at (left_gap p at (place - at) n (omega arith) (λ k b i. h k b (omega arith))) ∙ left_yes p place n l y
+
+-- where the walk goes on: the first that passes, none before it, and those that are left behind it
+pub record GoesOnAt (p : ℕ → Bool) (at n place : ℕ) (rest : List ℕ) : Type 0 where
+  pub from : at ≤ place
+  pub inside : place < n
+  pub passes : p place ≡ true
+  pub gap : (k : ℕ) → at ≤ k → k < place → p k ≡ false
+  pub left : rest ≡ filter p (range_with_len (place + 1) (n - (place + 1)))
+
+pub left_next : (p : ℕ → Bool) (at n place : ℕ) (rest : List ℕ) → filter p (range_with_len at (n - at)) ≡ place ∷ rest → GoesOnAt p at n place rest
+left_next p at n place rest h = elim (cases_lt at n) [
+  | inl l ↦ go (n - at) at (omega arith) h
+  | inr l ↦ let z = left_none p at n l in absurd (cc)
+]
+  where
+    go : (d at : ℕ) → n - at ≡ d → filter p (range_with_len at (n - at)) ≡ place ∷ rest → GoesOnAt p at n place rest
+    go zero at e h = let z = left_none p at n (omega arith) in absurd (cc)
+    go (suc d) at e h = elim (cases_Bool (p at)) [
+      | inl t ↦
+          let s = left_yes p at n (omega arith) t in let q : at ≡ place = cc in
+          record {
+            from = omega arith;
+            inside = omega arith;
+            passes = rw q at t;
+            gap = λ k a b. absurd (omega arith);
+            left = let r : rest ≡ filter p (range_with_len (at + 1) (n - (at + 1))) = cc in rw q at r;
+          }
+      | inr f ↦
+          let g = go d (at + 1) (omega arith) (sym (left_no p at n (omega arith) f) ∙ h) in
+          record {
+            from = omega (arith, g.from);
+            inside = g.inside;
+            passes = g.passes;
+            gap = λ k a b. elim (cases_lt at k) [ inl l ↦ g.gap k (omega arith) b | inr l ↦ let q : k ≡ at = omega arith in rw q f ];
+            left = g.left;
+          }
+    ]
+
+-- where nothing is left, none passes
+pub left_over : (p : ℕ → Bool) (at n : ℕ) → filter p (range_with_len at (n - at)) ≡ [] → (k : ℕ) → at ≤ k → k < n → p k ≡ false
+left_over p at n h k a b = go (k - at) at (omega arith) a h
+  where
+    go : (d at : ℕ) → k - at ≡ d → at ≤ k → filter p (range_with_len at (n - at)) ≡ [] → p k ≡ false
+    go zero at e a h = let q : at ≡ k = omega arith in elim (cases_Bool (p at)) [
+      | inl t ↦ let s = left_yes p at n (omega arith) t in absurd (cc)
+      | inr f ↦ rw q at f
+    ]
+    go (suc d) at e a h = elim (cases_Bool (p at)) [
+      | inl t ↦ let s = left_yes p at n (omega arith) t in absurd (cc)
+      | inr f ↦ go d (at + 1) (omega arith) (omega arith) (sym (left_no p at n (omega arith) f) ∙ h)
+    ]
 
 -- a marked place that the walk comes to lies inside
 pub place_inside : (ms : List Bool) (n : ℕ) (s t u : Places) (xs : List ℕ) (r : Option ℕ) (i : ℕ) → places_left s ≡ marked_places ms n →

@@ -9,8 +9,8 @@ ghost use Rattle.decide.specs.Surveying.{Surveyed, FewNamed};
 use crate::counting::count_numbers;
 use crate::surveying::Survey;
 use arrayvec::ArrayVec;
-use condition::{Refusal, store_count};
-use list::{any_lines_fit, any_lines_named, check_lists, check_named};
+use condition::Refusal;
+use list::{any_lines_fit, any_lines_named, check, check_lists, line_size};
 
 // How many nodes stand in the store; or why the lists, the store or an answer of n lines, w cells wide, is refused.
 pub(crate) fn check_answer(
@@ -23,29 +23,20 @@ pub(crate) fn check_answer(
     ensures refusal { outcome result ≡ answer_told lists.now nodes.now answer.now n w }
     ensures value { IfOk result (Checked lists.now nodes.now answer.now n w) }
 {
-    let fitting = check_lists(lists);
-    let Ok(_) = fitting else {
-        return fitting;
-    };
+    check_lists(lists)?;
     let whole = whole_lines(answer, n, w);
     if !any_lines_fit(answer, whole, w as usize) {
         return Err(Refusal::BadLists(9));
     }
-    let stored = store_count(nodes);
-    let Ok(count) = stored else {
-        return stored;
-    };
-    let named = check_named(lists, count);
-    let Ok(_) = named else {
-        return named;
-    };
+    check(lists, nodes)?;
+    let count = nodes[0];
     if !any_lines_named(answer, whole, w as usize, count) {
         return Err(Refusal::NoSuchNode(9));
     }
     if whole as u64 != n {
         return Err(Refusal::AnswerTooShort(answer.len() as u64));
     }
-    stored
+    Ok(count)
 }
 
 // The gaps that decide a row, where they are at most six, and the numbers that decide it at most eight.
@@ -76,5 +67,5 @@ fn whole_lines(answer: &[u64], n: u64, w: u64) -> usize
     if w >= size {
         return 0;
     }
-    n.min(size / (1 + 2 * w)) as usize
+    n.min(size / line_size(w as usize) as u64) as usize
 }

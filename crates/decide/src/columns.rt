@@ -2,54 +2,62 @@
 ghost use Rattle.std.specs.Prelude.{◌≡◌, ℕ, ◌<◌, ◌≤◌, length};
 ghost use Rattle.decide.specs.Columns.{Having, Alike, Earlier, Named, Filled};
 
-use crate::rows::Row;
+use crate::rows::Rows;
 use crate::words::Word;
+use arrayvec::ArrayVec;
 
 // The lanes in which the rows have at a place the number that they have at each earlier one, and those in which they have there each
 // of the named numbers.
-#[derive(Clone, Copy, Default)]
+#[derive(Default, Drop)]
 struct Column {
-    earlier: [Word; 6],
-    named: [Word; 8],
+    earlier: ArrayVec<Word, 6>,
+    named: ArrayVec<Word, 8>,
 }
 
-// Rows, one in each lane, all with the places before `depth` settled; and a column for each of these places.
-#[derive(Clone, Copy)]
+// Rows, one in each lane, all with the first places settled; and a column for each of these places.
+#[derive(Drop)]
 pub(crate) struct Table<'a> {
-    pub(crate) rows: &'a [Row],
-    pub(crate) depth: usize,
+    rows: &'a Rows,
     named: &'a [u64],
-    columns: [Column; 6],
-    ghost few: { (length rows.now ≤ 256) × ((depth ≤ 6) × (length named.now ≤ 8)) },
-    ghost filled: { Filled rows.now depth named.now columns },
+    columns: ArrayVec<Column, 6>,
+    ghost few: { length columns.items ≤ 6 },
+    ghost filled: { Filled rows.now.list.items named.now columns.items },
 }
 
 impl<'a> Table<'a> {
-    // The table of some rows.
-    pub(crate) fn of(rows: &'a [Row], depth: usize, named: &'a [u64]) -> Table<'a>
-        requires { (length rows.now ≤ 256) × ((depth ≤ 6) × (length named.now ≤ 8)) }
+    ghost use Rattle.decide.specs.Lanes.{depth_of};
+
+    // The table of some rows with the places before `depth` settled.
+    pub(crate) fn of(rows: &'a Rows, depth: usize, named: &'a [u64]) -> Table<'a>
+        requires { (depth ≤ 6) × (length named.now ≤ 8) }
         ensures rows { result.rows.now ≡ rows.now }
-        ensures depth { result.depth ≡ depth }
+        ensures depth { depth_of result ≡ depth }
     {
-        let mut columns = [Column::default(); 6];
+        let mut columns = ArrayVec::new();
         for place in 0..depth {
-            columns[place] = Column {
+            columns.push(Column {
                 earlier: earlier(rows, place),
                 named: with_named(rows, place, named),
-            };
+            });
         }
         Table {
             rows,
-            depth,
             named,
             columns,
         }
     }
 
+    // How many places are settled.
+    pub(crate) fn depth(&self) -> usize
+        ensures { result ≡ depth_of self.now }
+    {
+        self.columns.len()
+    }
+
     // The lanes in which the rows have the same number at two places.
     pub(crate) fn pair(&self, p: usize, q: usize) -> Word
-        requires { (p < self.now.depth) × (q < self.now.depth) }
-        ensures { Alike self.now.rows.now p q result }
+        requires { (p < depth_of self.now) × (q < depth_of self.now) }
+        ensures { Alike self.now.rows.now.list.items p q result }
     {
         if q < p {
             self.columns[p].earlier[q]
@@ -62,8 +70,8 @@ impl<'a> Table<'a> {
 
     // The lanes in which the rows have a number at a place.
     pub(crate) fn number(&self, place: usize, number: u64) -> Word
-        requires { place < self.now.depth }
-        ensures { Having self.now.rows.now place number result }
+        requires { place < depth_of self.now }
+        ensures { Having self.now.rows.now.list.items place number result }
     {
         match self.named.iter().position(|n| *n == number) {
             Some(j) => self.columns[place].named[j],
@@ -73,33 +81,33 @@ impl<'a> Table<'a> {
 }
 
 // The lanes in which the rows have at a place the number that they have at each earlier one.
-fn earlier(rows: &[Row], place: usize) -> [Word; 6]
-    requires { (length rows.now ≤ 256) × (place < 6) }
-    ensures { Earlier rows.now place place result }
+fn earlier(rows: &Rows, place: usize) -> ArrayVec<Word, 6>
+    requires { place < 6 }
+    ensures { Earlier rows.now.list.items place result.items }
 {
-    let mut words = [Word::default(); 6];
+    let mut words = ArrayVec::new();
     for q in 0..place {
-        words[q] = Word::passing(rows, |row| row.numbers[place] == row.numbers[q]);
+        words.push(Word::passing(&rows.list, |row| row.numbers[place] == row.numbers[q]));
     }
     words
 }
 
 // The lanes in which the rows have each of the named numbers at a place.
-fn with_named(rows: &[Row], place: usize, named: &[u64]) -> [Word; 8]
-    requires { (length rows.now ≤ 256) × ((place < 6) × (length named.now ≤ 8)) }
-    ensures { Named rows.now place named.now (length named.now) result }
+fn with_named(rows: &Rows, place: usize, named: &[u64]) -> ArrayVec<Word, 8>
+    requires { (place < 6) × (length named.now ≤ 8) }
+    ensures { Named rows.now.list.items place named.now result.items }
 {
-    let mut words = [Word::default(); 8];
-    for (j, number) in named.iter().enumerate() {
-        words[j] = having(rows, place, *number);
+    let mut words = ArrayVec::new();
+    for number in named {
+        words.push(having(rows, place, *number));
     }
     words
 }
 
 // The lanes in which the rows have a number at a place.
-fn having(rows: &[Row], place: usize, number: u64) -> Word
-    requires { (length rows.now ≤ 256) × (place < 6) }
-    ensures { Having rows.now place number result }
+fn having(rows: &Rows, place: usize, number: u64) -> Word
+    requires { place < 6 }
+    ensures { Having rows.now.list.items place number result }
 {
-    Word::passing(rows, |row| row.numbers[place] == number)
+    Word::passing(&rows.list, |row| row.numbers[place] == number)
 }

@@ -7,8 +7,9 @@ ghost use Rattle.decide.specs.Folding.{Room, place_in, renamed, Folds};
 ghost use Rattle.decide.specs.Reaching.{marked, Closed};
 
 use crate::building::Cone;
+use crate::marked::Marked;
 use crate::simplifying::NEVER;
-use condition::{Node, node_at};
+use condition::Node;
 
 impl Cone<'_, '_> {
     // Copies each marked one of the first n nodes of a store, and writes down its place in the cone.
@@ -23,11 +24,13 @@ impl Cone<'_, '_> {
         ensures unmarked { (i : ℕ) → slice_index_or marks.now i false ≡ false → slice_index places.new i ≡ slice_index places.old i }
         ensures past { (i : ℕ) → n ≤ i → slice_index places.new i ≡ slice_index places.old i }
     {
-        for i in 0..n as usize {
-            if marks[i] {
-                let node = renamed(node_at(nodes, 1 + 5 * i), places, i);
-                places[i] = self.build(node);
-            }
+        let marked = Marked {
+            nodes,
+            n: n as usize,
+            marks,
+        };
+        for i in marked.places() {
+            places[i] = self.build(renamed(marked.node(i), places, i));
         }
     }
 }

@@ -9,34 +9,35 @@ ghost use Rattle.decide.specs.Bit.{lane};
 ghost use Rattle.decide.specs.Might.{tell};
 ghost use Rattle.decide.specs.Sides.{side};
 ghost use Rattle.decide.specs.Rows.{place, on_of};
-ghost use Rattle.decide.specs.Lanes.{Tells, Meets};
+ghost use Rattle.decide.specs.Lanes.{depth_of, Tells, Meets};
 
 use crate::columns::Table;
 use crate::gaps::Gaps;
-use crate::rows::Row;
+use crate::rows::Rows;
 use crate::sides::Sides;
 use crate::task::Task;
 use crate::words::Word;
 use condition::Cell;
-use evaluate::{Sense, work_out};
+use evaluate::{Sense, before, work_out};
 
 // In which lanes a condition can hold, and in which it can fail.
 pub(crate) type Rails = Sides<Word>;
 
 // In which lanes both goals might still be met, where the rows have the gaps before `depth` settled: what is known with what is shown,
 // and with its contrary.
-pub(crate) fn might_meet(task: &Task, depth: usize, rows: &[Row], values: &mut [Rails]) -> Rails
+pub(crate) fn might_meet(task: &Task, depth: usize, rows: &Rows, values: &mut [Rails]) -> Rails
     requires room { count task.now.cone.now ≤ length values.old }
-    requires few { (length rows.now ≤ 256) × (depth ≤ 6) }
-    ensures { Meets task.now.gaps.names.items depth rows.now task.now.cone.now task.now.goal result }
+    requires deep { depth ≤ 6 }
+    ensures { Meets task.now.gaps.names.items depth rows.now.list.items task.now.cone.now task.now.goal result }
 {
     let lanes = Lanes {
         gaps: &task.gaps,
         table: Table::of(rows, depth, &task.pool[..task.named]),
     };
-    work_out(task.cone, task.cone[0], &lanes, values);
-    let known = lanes.value_at(task.cone, task.goal.known, values);
-    let shows = lanes.value_at(task.cone, task.goal.shows, values);
+    let count = task.cone[0];
+    work_out(task.cone, count, &lanes, values);
+    let known = before(&lanes, values, count as usize, task.goal.known);
+    let shows = before(&lanes, values, count as usize, task.goal.shows);
     Sides {
         yes: known.yes & shows.yes,
         no: known.yes & shows.no,
@@ -44,7 +45,7 @@ pub(crate) fn might_meet(task: &Task, depth: usize, rows: &[Row], values: &mut [
 }
 
 // Rows, one in each lane, and the gaps whose numbers they have.
-#[derive(Clone, Copy)]
+#[derive(Drop)]
 struct Lanes<'a> {
     gaps: &'a Gaps,
     table: Table<'a>,
@@ -118,23 +119,10 @@ impl Lanes<'_> {
 
     // The place of a gap, if it is settled.
     fn settled_place(&self, k: u64) -> Option<usize>
-        ensures { MatchOption result (on_of self.now.gaps.now.names.items self.now.table.depth k ≡ false) (λ p. (p < self.now.table.depth) × (place self.now.gaps.now.names.items k ≡ Some p)) }
+        ensures { MatchOption result (on_of self.now.gaps.now.names.items (depth_of self.now.table) k ≡ false) (λ p. (p < depth_of self.now.table) × (place self.now.gaps.now.names.items k ≡ Some p)) }
     {
         let place = self.gaps.place(k)?;
-        (place < self.table.depth).then_some(place)
-    }
-
-    // What the condition at a place of a store might be, once its nodes are worked out; one that does not stand is never.
-    fn value_at(&self, nodes: &[u64], place: u64, values: &[Rails]) -> Rails
-        requires store { (1 ≤ length nodes.now) × (count nodes.now ≤ length values.now) }
-        requires worked { ComeTo (Tells self.now) nodes.now (count nodes.now) values.now }
-        ensures { Tells self.now result (cond_at nodes.now place) }
-    {
-        if place < nodes[0] {
-            values[place as usize]
-        } else {
-            self.constant(false)
-        }
+        (place < self.table.depth()).then_some(place)
     }
 }
 

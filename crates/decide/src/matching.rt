@@ -1,7 +1,7 @@
 // The lines of an answer that decide a row.
-ghost use Rattle.std.specs.Prelude.{◌≡◌, ◌≤◌, length, drop};
+ghost use Rattle.std.specs.Prelude.{◌≡◌, length, drop};
 ghost use Rattle.condition.specs.Shapes.{cell_of};
-ghost use Rattle.list.specs.Layout.{line_size, cells_in};
+ghost use Rattle.list.specs.Layout.{cells_in};
 ghost use Rattle.decide.specs.Deciding.{agrees_cell, agrees};
 ghost use Rattle.decide.specs.Matching.{Matched};
 
@@ -9,31 +9,30 @@ use crate::marked::Marks;
 use crate::noting::Notes;
 use crate::sought::Sought;
 use condition::Cell;
-use list::{line_cell, line_node};
+use list::Line;
 
 impl Sought<'_> {
     // Marks the conditions of the lines that decide the row, and notes the cells of these lines.
     pub(crate) fn mark_lines(&self, marks: &mut Marks, notes: &mut Notes)
         ensures { Matched self.now self.now.lines marks.old marks.new notes.old notes.new }
     {
-        for i in 0..self.lines {
-            let line = self.line(i);
-            if agrees(line, self.row) {
-                marks[line_node(line) as usize] = true;
-                notes.note_line(line, self.row.len());
+        for line in self.answer_lines() {
+            if agrees(&line, self.row) {
+                marks[line.node() as usize] = true;
+                notes.note_line(&line);
             }
         }
     }
 }
 
 // Whether the known cells of a line agree with a row.
-pub(crate) fn agrees(line: &[u64], row: &[u64]) -> bool
-    requires { line_size (length row.now) ≤ length line.now }
-    ensures { result ≡ agrees (cells_in (length row.now) (drop 1 line.now)) row.now }
+pub(crate) fn agrees(line: &Line, row: &[u64]) -> bool
+    requires { line.now.width ≡ length row.now }
+    ensures { result ≡ agrees (cells_in (length row.now) (drop 1 line.now.numbers.now)) row.now }
 {
     row.iter()
         .enumerate()
-        .all(|(a, number)| agrees_cell(line_cell(line, a), *number))
+        .all(|(a, number)| agrees_cell(line.cell(a), *number))
 }
 
 // Whether a cell is a gap, or this number.

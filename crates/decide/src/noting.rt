@@ -3,7 +3,7 @@ ghost use Rattle.std.specs.Prelude.{◌≡◌, ◌≤◌, true, [], ◌∷◌, m
 ghost use Rattle.condition.specs.Cond.{known};
 ghost use Rattle.condition.specs.Store.{has_name};
 ghost use Rattle.condition.specs.Shapes.{cell_of, Named};
-ghost use Rattle.list.specs.Layout.{line_size, cells_in, cells_fit};
+ghost use Rattle.list.specs.Layout.{cells_in, cells_fit};
 ghost use Rattle.decide.specs.Reaching.{own_cells};
 ghost use Rattle.decide.specs.Marked.{cells_marked};
 ghost use Rattle.decide.specs.Noting.{gaps_noted, numbers_noted, Noted, NotesMore};
@@ -11,7 +11,7 @@ ghost use Rattle.decide.specs.Noting.{gaps_noted, numbers_noted, Noted, NotesMor
 use crate::marked::Marked;
 use arrayvec::ArrayVec;
 use condition::{Cell, Node};
-use list::line_cell;
+use list::Line;
 
 // All gaps that were noted, and of the numbers the first nine, each once.
 #[derive(Drop)]
@@ -55,14 +55,13 @@ impl Notes {
         }
     }
 
-    // Notes the cells of a line, w cells wide.
-    pub(crate) fn note_line(&mut self, line: &[u64], w: usize)
-        requires long { line_size w ≤ length line.now }
-        requires cells { cells_fit w (drop 1 line.now) ≡ true }
-        ensures { NotesMore (cells_in w (drop 1 line.now)) self.old self.new }
+    // Notes the cells of a line.
+    pub(crate) fn note_line(&mut self, line: &Line)
+        requires { cells_fit line.now.width (drop 1 line.now.numbers.now) ≡ true }
+        ensures { NotesMore (cells_in line.now.width (drop 1 line.now.numbers.now)) self.old self.new }
     {
-        for a in 0..w {
-            self.note(line_cell(line, a));
+        for a in 0..line.width() {
+            self.note(line.cell(a));
         }
     }
 

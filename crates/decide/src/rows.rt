@@ -1,9 +1,10 @@
 // Rows of numbers that are tried.
-ghost use Rattle.std.specs.Prelude.{◌≡◌, ℕ, ◌<◌};
+ghost use Rattle.std.specs.Prelude.{◌≡◌, ℕ, ◌<◌, ◌≤◌, [], length};
 ghost use Rattle.evaluate.specs.Shapes.{numbers_of};
 ghost use Rattle.decide.specs.Rows.{GoesOn, filling_of};
 
 use crate::gaps::Gaps;
+use arrayvec::ArrayVec;
 use evaluate::Filling;
 
 // Numbers for the gaps that are settled, and how many of the fresh numbers are in use.
@@ -33,5 +34,23 @@ impl Row {
             filling = filling.with(*name, self.numbers[p]).unwrap();
         }
         filling
+    }
+}
+
+// Up to 256 rows, one in each lane.
+#[derive(Drop)]
+pub(crate) struct Rows {
+    pub(crate) list: ArrayVec<Row, 256>,
+    ghost few: { length list.items ≤ 256 },
+}
+
+impl Rows {
+    // No rows.
+    pub(crate) fn new() -> Rows
+        ensures { result.list.items ≡ [] }
+    {
+        Rows {
+            list: ArrayVec::new(),
+        }
     }
 }

@@ -5,7 +5,7 @@ ghost use Rattle.decide.specs.Sides.{side};
 ghost use Rattle.decide.specs.Search.{tried, Begun, Sound, Searched, wanted, First, OrFirst, Extended};
 
 use crate::lanes::{Rails, might_meet};
-use crate::rows::Row;
+use crate::rows::{Row, Rows};
 use crate::sides::Sides;
 use crate::task::Task;
 use crate::words::Word;
@@ -31,9 +31,8 @@ impl Met {
     }
 
     // What is left, from the first rows whose lanes say so.
-    fn or_first(&self, lanes: &Rails, rows: &[Row]) -> Met
-        requires { length rows.now ≤ 256 }
-        ensures { (t : Bool) → OrFirst (side t self.now) (side t lanes.now) rows.now (side t result) }
+    fn or_first(&self, lanes: &Rails, rows: &Rows) -> Met
+        ensures { (t : Bool) → OrFirst (side t self.now) (side t lanes.now) rows.now.list.items (side t result) }
     {
         Sides {
             yes: self.yes.or_else(|| first(lanes.yes, rows)),
@@ -48,31 +47,31 @@ impl Met {
 pub(crate) fn search(
     task: &Task,
     depth: usize,
-    rows: &[Row],
+    rows: &Rows,
     values: &mut [Rails],
     mut met: Met,
 ) -> Met
     requires room { count task.now.cone.now ≤ length values.old }
-    requires few { (length rows.now ≤ 256) × (depth ≤ length (tried task.now)) }
-    requires begun { All (Begun task.now depth) rows.now }
+    requires deep { depth ≤ length (tried task.now) }
+    requires begun { All (Begun task.now depth) rows.now.list.items }
     requires sound { (t : Bool) → Sound task.now t (side t met) }
-    ensures { Searched task.now depth rows.now met result }
+    ensures { Searched task.now depth rows.now.list.items met result }
 {
-    if rows.is_empty() || met.is_whole() {
+    if rows.list.is_empty() || met.is_whole() {
         return met;
     }
     let lanes = might_meet(task, depth, rows, values);
     if depth == task.gaps.names.len() {
         return met.or_first(&lanes, rows);
     }
-    let mut next = ArrayVec::<Row, 256>::new();
-    for (l, row) in rows.iter().enumerate() {
-        if next.remaining_capacity() < 14 {
+    let mut next = Rows::new();
+    for (l, row) in rows.list.iter().enumerate() {
+        if next.list.remaining_capacity() < 14 {
             met = search(task, depth + 1, &next, values, met);
-            next.clear();
+            next.list.clear();
         }
         if met.wants(&lanes, l) {
-            extend(task, depth, *row, &mut next);
+            extend(task, depth, *row, &mut next.list);
         }
     }
     search(task, depth + 1, &next, values, met)
@@ -91,10 +90,9 @@ fn extend(task: &Task, depth: usize, row: Row, next: &mut ArrayVec<Row, 256>)
 }
 
 // The first row whose lane says yes.
-fn first(word: Word, rows: &[Row]) -> Option<Row>
-    requires { length rows.now ≤ 256 }
-    ensures { First word rows.now result }
+fn first(word: Word, rows: &Rows) -> Option<Row>
+    ensures { First word rows.now.list.items result }
 {
-    let lane = (0..rows.len()).find(|l| word.test(*l))?;
-    Some(rows[lane])
+    let lane = (0..rows.list.len()).find(|l| word.test(*l))?;
+    Some(rows.list[lane])
 }

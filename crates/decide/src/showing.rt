@@ -2,7 +2,7 @@
 ghost use Rattle.std.specs.Prelude.{◌≡◌, ℕ, ◌*◌, ◌<◌, ◌≤◌, true, ◌++◌, map, length, drop, slice_index};
 ghost use Rattle.condition.specs.Cond.{known};
 ghost use Rattle.condition.specs.Store.{count};
-ghost use Rattle.list.specs.Layout.{line_size, cells_in, cells_fit};
+ghost use Rattle.list.specs.Layout.{cells_in, cells_fit};
 ghost use Rattle.decide.specs.Building.{Same};
 ghost use Rattle.decide.specs.Deciding.{gives, shows, agrees};
 ghost use Rattle.decide.specs.Folding.{Room};
@@ -15,7 +15,7 @@ use crate::matching::agrees;
 use crate::simplifying::{ALWAYS, NEVER};
 use crate::sought::Sought;
 use condition::Cell;
-use list::{line_cell, line_node};
+use list::Line;
 
 impl Cone<'_, '_> {
     // The place of the condition that a line of the answer is there and gives the row; the conditions of the lines stand at the places
@@ -27,11 +27,10 @@ impl Cone<'_, '_> {
         ensures means { Placed self.old.nodes.now sought.now places.now → Means self.old.nodes.now self.new.nodes.now (nodes_for (length sought.now.row.now) (deciding_of sought.now)) (row_cells (deciding_of sought.now) sought.now.row.now) (shows (deciding_of sought.now) sought.now.row.now) result }
     {
         let mut shown = NEVER;
-        for i in (0..sought.lines).rev() {
-            let line = sought.line(i);
-            if agrees(line, sought.row) {
-                let condition = places[line_node(line) as usize];
-                let given = self.give_row(line, sought.row);
+        for line in sought.answer_lines().rev() {
+            if agrees(&line, sought.row) {
+                let condition = places[line.node() as usize];
+                let given = self.give_row(&line, sought.row);
                 let here = self.both_of(condition, given);
                 shown = self.either_of(here, shown);
             }
@@ -40,15 +39,15 @@ impl Cone<'_, '_> {
     }
 
     // The place of the condition that the cells of a line are those of a row.
-    fn give_row(&mut self, line: &[u64], row: &[u64]) -> u64
-        requires line { (line_size (length row.now) ≤ length line.now) × (cells_fit (length row.now) (drop 1 line.now) ≡ true) }
+    fn give_row(&mut self, line: &Line, row: &[u64]) -> u64
+        requires line { (line.now.width ≡ length row.now) × (cells_fit (length row.now) (drop 1 line.now.numbers.now) ≡ true) }
         requires room { Room self.old.nodes.now (2 * length row.now) }
         ensures same { Same self.old self.new }
-        ensures means { Means self.old.nodes.now self.new.nodes.now (2 * length row.now) (cells_in (length row.now) (drop 1 line.now) ++ map known row.now) (gives (cells_in (length row.now) (drop 1 line.now)) row.now) result }
+        ensures means { Means self.old.nodes.now self.new.nodes.now (2 * length row.now) (cells_in (length row.now) (drop 1 line.now.numbers.now) ++ map known row.now) (gives (cells_in (length row.now) (drop 1 line.now.numbers.now)) row.now) result }
     {
         let mut given = ALWAYS;
         for a in (0..row.len()).rev() {
-            let equal = self.equal_of(line_cell(line, a), Cell::Number(row[a]));
+            let equal = self.equal_of(line.cell(a), Cell::Number(row[a]));
             given = self.both_of(equal, given);
         }
         given
@@ -61,12 +60,12 @@ impl Sought<'_> {
         ensures is { length (deciding_of self.now) ≡ result }
         ensures few { result ≤ self.now.lines }
     {
-        let mut many = 0;
-        for i in (0..self.lines).rev() {
-            if agrees(self.line(i), self.row) {
-                many += 1;
-            }
-        }
-        many
+        self.answer_lines()
+            .filter(
+                |line|
+                    requires { line.now.width ≡ length self.now.row.now }
+                { agrees(line, self.row) },
+            )
+            .count()
     }
 }

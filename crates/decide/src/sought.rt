@@ -1,9 +1,10 @@
 // A row looked for in an answer over a store.
-ghost use Rattle.std.specs.Prelude.{◌≡◌, ◌+◌, ◌*◌, ◌<◌, ◌≤◌, true, length, drop, slice_index};
+ghost use Rattle.std.specs.Prelude.{◌≡◌, ◌+◌, ◌*◌, ◌<◌, ◌≤◌, true, length};
 ghost use Rattle.condition.specs.Store.{count};
-ghost use Rattle.list.specs.Layout.{line_size, cells_fit, lines_fit, lines_named};
+ghost use Rattle.list.specs.Layout.{line_size, lines_fit, lines_named};
 
 use crate::marked::{Marked, Marks};
+use list::Lines;
 
 // A store, the place of what is known in it, an answer of so many lines, and a row that is as wide.
 #[derive(Clone, Copy)]
@@ -22,7 +23,7 @@ pub(crate) struct Sought<'a> {
 }
 
 impl<'a> Sought<'a> {
-    ghost use Rattle.decide.specs.Sought.{line_of};
+    ghost use Rattle.list.specs.Lines.{starts, lines_left};
 
     // How many nodes the store has.
     pub(crate) fn count(&self) -> usize
@@ -31,15 +32,11 @@ impl<'a> Sought<'a> {
         self.nodes[0] as usize
     }
 
-    // Line i of the answer, and what stands behind it.
-    pub(crate) fn line(&self, i: usize) -> &'a [u64]
-        requires { i < self.now.lines }
-        ensures is { result.now ≡ line_of self.now i }
-        ensures long { line_size (length self.now.row.now) ≤ length result.now }
-        ensures cells { cells_fit (length self.now.row.now) (drop 1 result.now) ≡ true }
-        ensures named { slice_index result.now 0 < count self.now.nodes.now }
+    // The lines of the answer.
+    pub(crate) fn answer_lines(&self) -> Lines<'a>
+        ensures { lines_left result ≡ starts self.now.lines (length self.now.row.now) self.now.answer.now }
     {
-        &self.answer[i * (1 + 2 * self.row.len())..]
+        Lines::of(self.answer, self.lines, self.row.len())
     }
 
     // The nodes of the store, with these marks.

@@ -8,7 +8,7 @@ ghost use Rattle.decide.specs.Trying.{Names, Tried};
 use crate::gaps::Gaps;
 use crate::lanes::Rails;
 use crate::pool::pool;
-use crate::rows::Row;
+use crate::rows::{Row, Rows};
 use crate::search::search;
 use crate::sides::Sides;
 use crate::task::{Goal, Task};
@@ -29,7 +29,9 @@ pub(crate) fn try_all(
     ensures { (t : Bool) → Tried (goal_of cone.now goal t) (side t result) }
 {
     let task = task(cone, goal, gaps, numbers);
-    let met = search(&task, 0, &[Row::default()], values, Sides::default());
+    let mut rows = Rows::new();
+    rows.list.push(Row::default());
+    let met = search(&task, 0, &rows, values, Sides::default());
     met.map(|row| row.map(|row| row.filling(&task.gaps)))
 }
 

@@ -8,5 +8,5 @@ use Rattle.decide.proofs.matching.agrees.Goals as goal
 
 pub returns : goal.returns
 returns c =
-    all_from_yields_List (agrees_at c.args.line.now) _ _ c.all.result c.all.ensures.ran (YieldsList-from_enumerate (YieldsList-from_slice c.args.row.now (cc)) (cc)) (λ x b q k. search (rules, tests))
-    ∙ agrees_all c.args.line.now c.args.row.now
+    all_from_yields_List (agrees_at c.args.line.now.numbers.now) _ _ c.all.result c.all.ensures.ran (YieldsList-from_enumerate (YieldsList-from_slice c.args.row.now (cc)) (cc)) (λ x b q k. search (rules, tests))
+    ∙ agrees_all c.args.line.now.numbers.now c.args.row.now

@@ -8,4 +8,4 @@ pub returns : goal.returns
 returns c t =
     let task = c.task-task in let met = c.search-met in
     let filled : FilledRow (tried task.result) (side t met.result) (side t c.map.result) = let e = c.map.ensures t in search rules in
-    rw (← task.ensures.cone, ← task.ensures.goal) (found_all task.result t c.default.result (side t met.result) (side t c.map.result) (met.ensures.sound t) (met.ensures.dead t) filled)
+    rw (← task.ensures.cone, ← task.ensures.goal) (found_all task.result t c.default.result (side t met.result) (side t c.map.result) (met.ensures.sound t) (rw (c.push.ensures.items, c.new-rows.ensures) at (met.ensures.dead t)) filled)
