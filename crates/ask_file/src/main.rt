@@ -3,12 +3,12 @@
 
 ghost use Rattle.std.specs.Prelude.{◌<◌, length, OnOk};
 
-use answer::ask;
+use answer::{ask, with_room};
 use condition::{Condition, Refusal, cell_at};
 use file_bytes::{Input, read_lists, read_nodes};
-use list::check;
+use list::{check, line_size};
 use query::Question;
-use std::alloc::{AllocError, Global};
+use std::alloc::Global;
 use std::io;
 use std::io::Read;
 
@@ -115,7 +115,7 @@ fn answer(rt: &HostRuntime, heap: Global, book: &Book, asked: &Asked) -> anyhow:
     let size = asked
         .question
         .lines()
-        .saturating_mul(1 + 2 * width.min(8) as u64)
+        .saturating_mul(line_size(width.min(8)) as u64)
         .min(69632);
     let mut out = vec![in heap; 0u64; size as usize]?;
     match ask(
@@ -128,14 +128,6 @@ fn answer(rt: &HostRuntime, heap: Global, book: &Book, asked: &Asked) -> anyhow:
         Err(refusal) => println!(rt; "{refusal}")?,
     }
     Ok(())
-}
-
-// The nodes, with room behind them for as many as asking may add.
-fn with_room(heap: Global, nodes: &[u64], cost: u64) -> Result<Vec<u64>, AllocError> {
-    let mut room = Vec::from_slice(heap, nodes)?;
-    let more = 5 * cost.min(65536) as usize + 10;
-    room.resize(nodes.len().saturating_add(more), 0)?;
-    Ok(room)
 }
 
 // The lines of an answer, w cells wide.

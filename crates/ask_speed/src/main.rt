@@ -1,13 +1,16 @@
 // How large the answers to large questions are; and, where the argument is `time`, how long asking takes for each unit of cost.
 #![tactic(auto)]
 
-use answer::ask;
+use answer::{ask, with_room};
 use query::Question;
 use std::alloc::{AllocError, Global};
 use std::time::Instant;
 use std::{env, io};
 
 const REPEATS: u64 = 400;
+
+// A store with one node, which says always.
+const STORE: [u64; 6] = [1, 0, 0, 0, 0, 0];
 
 // Baptisms (child, father) and marriages (man, woman); every line under node 0.
 const BOOKS: [u64; 31] = [
@@ -30,11 +33,10 @@ struct Figures {
     time: u64,
 }
 
-// Lists, and memory for the nodes and the answer.
+// Lists, and memory for an answer.
 #[derive(Drop)]
 struct Memory {
     lists: Vec<u64>,
-    nodes: Vec<u64>,
     out: Vec<u64>,
 }
 
@@ -70,7 +72,6 @@ fn wants_time(rt: &HostRuntime) -> io::Result<bool> {
 fn baptisms(rt: &HostRuntime, heap: Global) -> anyhow::Result<()> {
     let mut memory = Memory {
         lists: Vec::from_slice(heap, &BOOKS)?,
-        nodes: vec![in heap; 0u64; 141]?,
         out: vec![in heap; 0u64; 30]?,
     };
     let figures = measure(rt, &mut memory, &MOTHERS, 1)?;
@@ -117,6 +118,7 @@ fn measure(
     repeats: u64,
 ) -> anyhow::Result<Figures> {
     let cost = Question::read(memory.lists.as_slice(), signs)?.cost();
+    let mut nodes = with_room(rt.alloc(), &STORE, cost)?;
     let mut figures = Figures {
         lines: 0,
         cost,
@@ -124,18 +126,18 @@ fn measure(
         time: u64::MAX,
     };
     for _ in 0..repeats {
-        set_count(memory.nodes.as_mut_slice(), 1);
+        set_count(nodes.as_mut_slice(), 1);
         let start = Instant::now(rt)?;
         figures.lines = ask(
             memory.lists.as_slice(),
             signs,
-            memory.nodes.as_mut_slice(),
+            nodes.as_mut_slice(),
             memory.out.as_mut_slice(),
         )?;
         let time = start.elapsed(rt)?.as_nanos();
         figures.time = figures.time.min(u64::try_from(time).unwrap_or(u64::MAX));
     }
-    let count = memory.nodes.as_slice().first().copied().unwrap_or(0);
+    let count = nodes.as_slice().first().copied().unwrap_or(0);
     figures.nodes = count.saturating_sub(1);
     Ok(figures)
 }
@@ -158,7 +160,6 @@ fn large(heap: Global) -> Result<Memory, AllocError> {
     put_list(&mut lists, 1, 1)?;
     Ok(Memory {
         lists,
-        nodes: vec![in heap; 0u64; 327701]?,
         out: vec![in heap; 0u64; 69632]?,
     })
 }

@@ -2,7 +2,7 @@
 // those that the question gives on the filled lists.
 #![tactic(auto)]
 
-use answer::ask;
+use answer::{ask, with_room};
 use condition::{Refusal, cell_at};
 use evaluate::{Filling, holds_at};
 use list::rows;
@@ -241,14 +241,6 @@ fn trial(rt: &HostRuntime, heap: Global, case: &Case, score: &mut Score) -> anyh
     score.answered = score.answered.saturating_add(1);
     count_kinds(signs, score);
     Ok(())
-}
-
-// The nodes, with room behind them for as many as asking may add.
-fn with_room(heap: Global, nodes: &[u64], cost: u64) -> Result<Vec<u64>, AllocError> {
-    let mut room = Vec::from_slice(heap, nodes)?;
-    let more = 5 * cost.min(65536) as usize + 10;
-    room.resize(nodes.len().saturating_add(more), 0)?;
-    Ok(room)
 }
 
 // The filling whose numbers are the digits of f to the base four.
