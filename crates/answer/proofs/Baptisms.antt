@@ -16,10 +16,6 @@ use Rattle.answer.specs.Baptisms.{books, fathers, Decided, mothers, unmarried, c
 abbrev rows : (x y z : ℕ) → List (List Row)
 rows x y z = (two 1 10 ∷ (two 2 x ∷ (two 3 y ∷ []))) ∷ ((two 10 20 ∷ (two 11 z ∷ [])) ∷ [])
 
-books_filled : (v : Filling) → all_filled v books ≡ rows (v 0) (v 1) (v 2)
-unfolding all_filled filled fill_cells holds
-books_filled v = refl
-
 mothers_shows : (x y z : ℕ) (r : Row) →
     stands r (ask mothers (rows x y z))
     ≡ (same_row r (two 1 20) || ((eqb x 10 && same_row r (two 2 20)) || ((eqb x 11 && same_row r (two 2 z))

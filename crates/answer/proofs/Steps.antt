@@ -7,7 +7,7 @@ use Rattle.condition.proofs.Growing.{grown_self, grown_cond, grown_trans}
 use Rattle.answer.specs.declared.less.Less.{Less}
 use Rattle.answer.specs.Plan.{many, wide, less_size, rid, equals}
 use Rattle.answer.specs.Sides.{plan, node, cells}
-use Rattle.answer.specs.Laid.{Based, New, Last, Added, Ready, last_of, each, less_one, less}
+use Rattle.answer.specs.Laid.{Based, New, Last, Added, Ready, last_of, less_one, less}
 
 pub rid_same : (m w : ℕ) (f : ℕ → Cell) (d e : ℕ → Cond) (g : ℕ → ℕ → Cell) (a b : Cond) → ((j : ℕ) → j < m → d j ≡ e j) → a ≡ b → rid m w f d g a ≡ rid m w f e g b
 unfolding rid
@@ -90,13 +90,6 @@ module _ (l : Less) where
       new_as (less_size (wide (plan l.p)) j + (2 * wide (plan l.p) + 3)) (less_size (wide (plan l.p)) (j + 1)) y _ _ ns ns₂ (rw add-one (omega (arith, suc-mul j (2 * wide (plan l.p) + 3))))
       (rw (a.is, grown_cond ns ns₁ a.grown (node l.q j) h, add-one j) refl)
       (new_trans (less_size (wide (plan l.p)) j) (2 * wide (plan l.p) + 3) x y _ _ ns ns₁ ns₂ a w)
-
-  pub less_all : (i j x : ℕ) (ns ns₁ : List ℕ) → j ≡ many (plan l.q) → New (less_size (wide (plan l.p)) j) x (less ns l j i) ns ns₁ → x + 1 ≡ count ns₁
-      → Last (each l) (less ns l (many (plan l.q)) i) ns ns₁
-  less_all i j x ns ns₁ e a k =
-      let h : New (each l) x (less ns l (many (plan l.q)) i) ns ns₁ = subst (λ m. New (less_size (wide (plan l.p)) m) x (less ns l m i) ns ns₁) e a in
-      let z : x ≡ count ns + each l - 1 = omega (arith, h.more, k) in
-      subst (λ t. New (each l) t (less ns l (many (plan l.q)) i) ns ns₁) z h
 
   -- what a line says does not change as the store grows
   pub less_same : (i : ℕ) (ns ns₁ : List ℕ) → Grown ns ns₁ → Ready l ns → i < many (plan l.p) → less ns₁ l (many (plan l.q)) i ≡ less ns l (many (plan l.q)) i

@@ -1,5 +1,5 @@
 -- Laws of `counted`.
-use Rattle.std.proofs.Common.{◌≡◌, ℕ, zero, suc, ◌+◌, ◌<◌, ◌≤◌, Bool, true, false, cond as if, not, ◌&&◌, eqb, ◌⊎◌, List, [], ◌∷◌, length, get_or, take, count_by, sym, refl, ap, ◌∙◌, subst, inl, inr, ⊎_elim, arith}
+use Rattle.std.proofs.Common.{◌≡◌, ℕ, zero, suc, ◌+◌, ◌<◌, ◌≤◌, Bool, true, false, not, ◌&&◌, eqb, ◌⊎◌, List, [], ◌∷◌, length, get_or, take, count_by, sym, refl, ap, ◌∙◌, subst, inl, inr, ⊎_elim, arith}
 use Rattle.std.specs.List.{AllByRecursion, IsDistinct}
 use Rattle.std.proofs.lemmas.List.Sums.{count_by_more_yes, count_by_more_no}
 use Rattle.std.proofs.lemmas.Map.Keys.{IsDistinct-head, IsDistinct-tail}
@@ -33,15 +33,6 @@ counted_more m (suc n) p l = elim (cases_eq m (suc n)) [
   | inl e ↦ rw e (omega arith)
   | inr ne ↦ omega (arith, counted_more m n p (omega arith))
 ]
-
-pub counted_few : (n : ℕ) (p : ℕ → Bool) → counted n p ≤ n
-unfolding counted
-counted_few zero p = omega arith
-counted_few (suc n) p = go (counted_few n p) (p n)
-  where
-    go : counted n p ≤ n → (b : Bool) → counted n p + if b 1 0 ≤ suc n
-    go h true = omega arith
-    go h false = omega arith
 
 -- where none passes from m on, those below m are all
 pub counted_gap : (m d : ℕ) (p : ℕ → Bool) → ((k : ℕ) → m ≤ k → k < m + d → p k ≡ false) → counted (m + d) p ≡ counted m p

@@ -2,7 +2,6 @@
 use Rattle.std.proofs.Common.{◌≡◌, ℕ, zero, suc, true, false, eqb, List, [], ◌∷◌, ◌++◌, get_or, refl, arith}
 use Rattle.std.proofs.lemmas.Bool.{both_ways, eqb-true, and_parts}
 use Rattle.condition.specs.Cond.{Cell, known}
-use Rattle.condition.proofs.Lists.{eqb_self}
 use Rattle.evaluate.specs.Filling.{Filling, fill_cell}
 use Rattle.list.specs.Lists.{Line, Row, fill_cells, filled, all_filled, same_row}
 
@@ -34,8 +33,3 @@ same_row_is [] [] e = refl
 same_row_is [] (y ∷ s) e = absurd (both_ways false refl e)
 same_row_is (x ∷ r) [] e = absurd (both_ways false refl e)
 same_row_is (x ∷ r) (y ∷ s) e = cc (eqb-true x y (and_parts (eqb x y) (same_row r s) e).0, same_row_is r s (and_parts (eqb x y) (same_row r s) e).1)
-
-pub same_row_self : (r : Row) → same_row r r ≡ true
-unfolding same_row
-same_row_self [] = refl
-same_row_self (x ∷ r) = rw (eqb_self x) (same_row_self r)

@@ -1,5 +1,5 @@
 -- Lines and cells by their place.
-use Rattle.std.proofs.Common.{◌≡◌, ℕ, zero, suc, ◌+◌, ◌*◌, ◌<◌, ◌≤◌, Bool, true, false, cond as if, ltb, List, [], ◌∷◌, ◌++◌, map, length, get_or, take, drop, None, sym, refl, ap, ◌∙◌, add-zero, add_assoc, suc-mul, zero-mul, arith}
+use Rattle.std.proofs.Common.{◌≡◌, ℕ, zero, suc, ◌+◌, ◌*◌, ◌<◌, ◌≤◌, Bool, true, false, cond as if, ltb, List, [], ◌∷◌, ◌++◌, map, length, get_or, take, drop, sym, refl, ap, ◌∙◌, add-zero, add_assoc, suc-mul, zero-mul, arith}
 use Rattle.std.proofs.lemmas.List.{get_or-drop, drop-drop, get_or_past, get_or-take, get_or_append_left, take_more, take_all, append-nil}
 use Rattle.std.specs.List.{range_with_len}
 use Rattle.std.proofs.lemmas.Bool.{ltb-true, and_parts}
@@ -10,9 +10,7 @@ use Rattle.evaluate.specs.Filling.{Filling, fill_cell, holds}
 use Rattle.evaluate.specs.Values.{WorkedOut}
 use Rattle.list.proofs.Filling.{filled_app}
 use Rattle.list.specs.Lists.{Line, Row, fill_cells, filled}
-use Rattle.list.specs.Shapes.{Shaped}
-use Rattle.list.specs.declared.shape.Shape.{Shape}
-use Rattle.list.specs.Layout.{line_size, list_size, named_below, cells_in, lines_in, lists_in, all_in, cell_fits, cells_fit, lines_fit, lines_named}
+use Rattle.list.specs.Layout.{line_size, list_size, cells_in, lines_in, lists_in, all_in, cell_fits, cells_fit, lines_fit, lines_named}
 
 -- the line at the front of xs
 abbrev pub line_in : List ℕ → ℕ → List ℕ → Line
@@ -161,15 +159,3 @@ line_cell_named n w i a at xs line l m e h =
     let q : 1 + (2 * a + 1) ≡ 2 + 2 * a = omega arith in
     fits_named (get_or line (1 + 2 * a) 0) (get_or line (2 + 2 * a) 0)
     (rw (get_or-drop 1 line (2 * a) 0, get_or-drop 1 line (2 * a + 1) 0, q) at (cells_fit_at w a (drop 1 line) m f))
-
--- the lines of list t by its shape: line i, its node that stands, and its cells
-module _ (lists : List ℕ) (t : ℕ) (s : Shape) (shaped : Shaped lists t s) (i : ℕ) (inside : i < s.lines) (line : List ℕ)
-    (is : line ≡ drop (s.at + i * line_size s.width) lists) where
-  pub shaped_line : (nodes : List ℕ) (d : Line) → get_or (get_or (all_in nodes lists) t []) i d ≡ line_in nodes s.width line
-  shaped_line nodes d = rw (shaped.says nodes) (line_of_part nodes s.lines s.width i s.at lists line d inside is)
-
-  pub shaped_node : (c : ℕ) → named_below lists c ≡ None → get_or line 0 0 < c
-  shaped_node c e = line_named c s.lines s.width i s.at lists line inside is (shaped.named c e)
-
-  pub shaped_cell : (a : ℕ) → a < s.width → has_name (cell_in (get_or line (1 + 2 * a) 0) (get_or line (2 + 2 * a) 0)) ≡ true
-  shaped_cell a l = line_cell_named s.lines s.width i a s.at lists line inside l is shaped.cells

@@ -1,29 +1,10 @@
 -- Loops over cells, lines and lists: what is left, one step on and at the end.
-use Rattle.std.proofs.Common.{◌≡◌, ℕ, zero, suc, ◌+◌, ◌-◌, ◌*◌, ◌<◌, ◌≤◌, Bool, true, false, List, length, take, drop, refl, suc-mul, arith, length-drop}
-use Rattle.std.proofs.lemmas.Nat.{mul-le}
-use Rattle.std.proofs.lemmas.List.{take_rest}
-use Rattle.list.specs.Layout.{line_size, list_size, passing, AtEach}
+use Rattle.std.proofs.Common.{◌≡◌, ℕ, suc, ◌+◌, ◌-◌, ◌<◌, ◌≤◌, Bool, true, false, List, drop, refl, arith}
+use Rattle.list.specs.Layout.{list_size, passing, AtEach}
 
 -- one of n is left fewer
 pub left_step : (n i : ℕ) → i < n → n - i ≡ suc (n - (i + 1))
 left_step n i l = omega arith
-
--- line i lies within n lines
-pub line_within : (i n s : ℕ) → i < n → i * s + s ≤ n * s
-line_within i zero s l = absurd (omega arith)
-line_within zero (suc n) s l = rw (suc-mul n s) (omega (arith, suc-mul 0 s))
-line_within (suc i) (suc n) s l = rw (suc-mul n s, suc-mul i s) (omega (arith, line_within i n s (omega arith)))
-
-pub line_next : (i s : ℕ) → (i + 1) * s ≡ i * s + s
-line_next i s = let e : i + 1 ≡ suc i = omega arith in rw e (suc-mul i s)
-
--- a line takes at most nine numbers
-pub line_small : (n w : ℕ) → n ≤ 64 → w ≤ 4 → n * line_size w ≤ 576
-line_small n w a b = mul-le n (line_size w) 64 9 a (omega arith)
-
--- a part from a on, as `&xs[a..]` is read
-pub part_long : (xs : List ℕ) (a s : ℕ) → a + s ≤ length xs → s ≤ length (take (length xs - a) (drop a xs))
-part_long xs a s l = rw take_rest (simp length-drop (omega arith))
 
 -- of the lists that are left, the first t of k have passed: the next one, and what is left behind it
 pub at_next : (P : List ℕ → Type 0) (k t : ℕ) (xs : List ℕ) → t < k → AtEach P (k - t) xs → P xs × AtEach P (k - (t + 1)) (drop (list_size xs) xs)

@@ -1,6 +1,6 @@
 -- The rows that a loop has left, one step on and at the end; the parts, columns and lists that are there.
-use Rattle.std.proofs.Common.{◌≡◌, ℕ, ◌+◌, ◌-◌, ◌<◌, ◌≤◌, min, ◌⊎◌, List, [], ◌∷◌, length, get_or, take, drop, vec_items, Vec, ap, inl, inr, arith}
-use Rattle.std.proofs.lemmas.List.{drop_more, drop_all, take_all, get_or-map, get_or_past, length-map}
+use Rattle.std.proofs.Common.{◌≡◌, ℕ, ◌+◌, ◌<◌, ◌≤◌, min, ◌⊎◌, List, [], ◌∷◌, length, get_or, drop, vec_items, Vec, ap, inl, inr, arith}
+use Rattle.std.proofs.lemmas.List.{drop_more, drop_all, get_or-map, get_or_past, length-map}
 use Rattle.std.proofs.lemmas.Bool.{cases_lt}
 use Rattle.list.specs.Lists.{Row}
 use Rattle.list.specs.Shapes.{rows_of}
@@ -21,14 +21,6 @@ module _ {X : Type 0} (xs : List X) (k m : ℕ) (e : m ≡ min k (length xs)) wh
       go : (length xs < k) ⊎ (k ≤ length xs) → drop m xs ≡ drop k xs
       go (inl h) = let p = drop_all m xs (omega arith) in let q = drop_all k xs (omega arith) in cc
       go (inr h) = let p : m ≡ k = omega arith in cc
-
-  -- `&xs[0..m]` as the checker reads it
-  pub take_within : take (m - 0) xs ≡ take k xs
-  take_within = go (cases_lt (length xs) k)
-    where
-      go : (length xs < k) ⊎ (k ≤ length xs) → take (m - 0) xs ≡ take k xs
-      go (inl h) = let p = take_all (m - 0) xs (omega arith) in let q = take_all k xs (omega arith) in cc
-      go (inr h) = let p : m - 0 ≡ k = omega arith in cc
 
 -- the rows of a list
 module _ {Z : Type 0} (ts : List (Vec (Vec ℕ Z) Z)) (t : ℕ) where

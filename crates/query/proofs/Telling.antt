@@ -3,7 +3,7 @@ use Rattle.std.proofs.Common.{◌≡◌, ℕ, ◌-◌, ◌*◌, leb, List, lengt
 use Rattle.std.proofs.lemmas.Bool.{eq-eqb, leb-true}
 use Rattle.condition.specs.Refusals.{unless}
 use Rattle.condition.proofs.Refusing.{first_none, unless_none}
-use Rattle.query.specs.Reading.{Sized, Read, sized, question_told, size_told, sizes_told, reads}
+use Rattle.query.specs.Reading.{Sized, Read, sized, question_told, sizes_told, reads}
 use Rattle.query.specs.Parts.{Reads}
 use Rattle.query.specs.Shapes.{part_at}
 use Rattle.query.proofs.Parting.{first_part, query_sized}
@@ -36,6 +36,3 @@ stands ss r ps n p e =
       lines = omega (arith, p.first.lines, leb-true (part_at ps 0).lines 4096 (unless_none (leb (part_at ps 0).lines 4096) 5 4097 t.0));
       cost = omega (arith, p.first.cost, leb-true (part_at ps 0).cost 65536 (unless_none (leb (part_at ps 0).cost 65536) 5 65537 t.1));
     }
-
-pub sizes_same : (ss : List (ℕ × ℕ)) (r : Read) (ps : List Part) (n : ℕ) → Parses ss r ps n → sizes_told (part_at ps 0).lines (part_at ps 0).cost ≡ size_told (sized r)
-sizes_same ss r ps n p = rw (p.first.lines, p.first.cost) refl
