@@ -5,7 +5,7 @@ ghost use Rattle.condition.specs.Shapes.{node_of};
 ghost use Rattle.condition.specs.Nodes.{behind, StandsAs, Found, Lacks};
 
 use crate::Node;
-use crate::reading::node_at;
+use crate::reading::nth_node;
 use crate::store::store_count;
 
 // The lowest place at which a node stands, behind all that it names; none where there is none, or no store.
@@ -23,7 +23,7 @@ fn stands_as(nodes: &[u64], i: u64, node: Node) -> bool
     requires { (i < count nodes.now) × (1 + 5 * count nodes.now ≤ length nodes.now) }
     ensures { Decides result (StandsAs nodes.now i node) }
 {
-    behind(node, i) && node_at(nodes, 1 + 5 * i as usize) == node
+    behind(node, i) && nth_node(nodes, i as usize) == node
 }
 
 // Whether all places that a node names lie before i.

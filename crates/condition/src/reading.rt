@@ -1,9 +1,9 @@
 // Numbers turned into cells and nodes.
-ghost use Rattle.std.specs.Prelude.{◌≡◌, ℕ, ◌+◌, ◌<◌, length, slice_index};
+ghost use Rattle.std.specs.Prelude.{◌≡◌, ℕ, ◌+◌, ◌*◌, ◌<◌, ◌≤◌, length, slice_index};
 ghost use Rattle.condition.specs.Cond.{Cond};
-ghost use Rattle.condition.specs.Store.{cell_in, has_name, comparison, node};
+ghost use Rattle.condition.specs.Store.{count, cell_in, has_name, comparison, node};
 ghost use Rattle.condition.specs.Shapes.{cell_of, node_of, Named};
-ghost use Rattle.condition.specs.Nodes.{compared, node_from};
+ghost use Rattle.condition.specs.Nodes.{compared, node_from, decoded};
 
 use crate::{Cell, Node};
 
@@ -57,4 +57,14 @@ pub fn node_at(xs: &[u64], i: usize) -> Node
         4 => Node::Both(xs[i + 1], xs[i + 2]),
         _ => Node::Either(xs[i + 1], xs[i + 2]),
     }
+}
+
+// Node i of a store.
+pub fn nth_node(nodes: &[u64], i: usize) -> Node
+    requires stands { i < count nodes.now }
+    requires whole { 1 + 5 * (i + 1) ≤ length nodes.now }
+    ensures read { result ≡ decoded nodes.now i }
+    ensures named { Named result }
+{
+    node_at(nodes, 1 + 5 * i)
 }

@@ -18,7 +18,7 @@ pub struct Condition<'a> {
 impl fmt::Display for Condition<'_> {
     fn fmt<W: fmt::Write>(&self, f: &mut fmt::Formatter<W>) -> fmt::Result {
         let mut left = MOST_SHOWN;
-        self.show(Around::Nothing, &mut left, f)
+        show(Some(*self), Around::Nothing, &mut left, f)
     }
 }
 
@@ -31,50 +31,53 @@ enum Around {
 }
 
 impl<'a> Condition<'a> {
-    // Shows the condition, and at most as many nodes as are left.
-    fn show<W: fmt::Write>(
-        self,
-        around: Around,
-        left: &mut u64,
-        f: &mut fmt::Formatter<W>,
-    ) -> fmt::Result
-        ensures { left.new ≤ left.old }
-    {
-        if *left == 0 {
-            return write!(f, "..");
-        }
-        *left -= 1;
-        let Some(node) = read_node(self.nodes, self.node) else {
-            return write!(f, "never");
-        };
-        let (a, word, b, inside, bracketed) = match node {
-            Node::Always => return write!(f, "always"),
-            Node::Never => return write!(f, "never"),
-            Node::Equal(a, b) => return write!(f, "{a} = {b}"),
-            Node::Not(a) => {
-                write!(f, "not ")?;
-                return self.at(a).show(Around::Not, left, f);
-            }
-            Node::Both(a, b) => (a, "and", b, Around::And, around == Around::Not),
-            Node::Either(a, b) => (a, "or", b, Around::Nothing, around != Around::Nothing),
-        };
-        if bracketed {
-            write!(f, "(")?;
-        }
-        self.at(a).show(inside, left, f)?;
-        write!(f, " {word} ")?;
-        self.at(b).show(inside, left, f)?;
-        if bracketed {
-            write!(f, ")")?;
-        }
-        Ok(())
-    }
-
-    // The condition at a place that this one names: one that is not before it stands for none.
-    fn at(self, place: u64) -> Condition<'a> {
-        Condition {
+    // The condition at a place that this one names; none where it is not before it.
+    fn at(self, place: u64) -> Option<Condition<'a>> {
+        (place < self.node).then_some(Condition {
             nodes: self.nodes,
-            node: if place < self.node { place } else { u64::MAX },
-        }
+            node: place,
+        })
     }
+}
+
+// Shows a condition, and at most as many nodes as are left; none is shown as never.
+fn show<W: fmt::Write>(
+    condition: Option<Condition<'_>>,
+    around: Around,
+    left: &mut u64,
+    f: &mut fmt::Formatter<W>,
+) -> fmt::Result
+    ensures { left.new ≤ left.old }
+{
+    if *left == 0 {
+        return write!(f, "..");
+    }
+    *left -= 1;
+    let Some(condition) = condition else {
+        return write!(f, "never");
+    };
+    let Some(node) = read_node(condition.nodes, condition.node) else {
+        return write!(f, "never");
+    };
+    let (a, word, b, inside, bracketed) = match node {
+        Node::Always => return write!(f, "always"),
+        Node::Never => return write!(f, "never"),
+        Node::Equal(a, b) => return write!(f, "{a} = {b}"),
+        Node::Not(a) => {
+            write!(f, "not ")?;
+            return show(condition.at(a), Around::Not, left, f);
+        }
+        Node::Both(a, b) => (a, "and", b, Around::And, around == Around::Not),
+        Node::Either(a, b) => (a, "or", b, Around::Nothing, around != Around::Nothing),
+    };
+    if bracketed {
+        write!(f, "(")?;
+    }
+    show(condition.at(a), inside, left, f)?;
+    write!(f, " {word} ")?;
+    show(condition.at(b), inside, left, f)?;
+    if bracketed {
+        write!(f, ")")?;
+    }
+    Ok(())
 }

@@ -7,7 +7,7 @@ ghost use Rattle.condition.specs.Shapes.{node_of, Named};
 ghost use Rattle.condition.specs.Nodes.{decoded};
 ghost use Rattle.condition.specs.Refusals.{outcome};
 
-use crate::reading::node_at;
+use crate::reading::nth_node;
 use crate::{Node, Refusal};
 
 // The most nodes that a store may have.
@@ -18,10 +18,7 @@ pub fn store_count(nodes: &[u64]) -> Result<u64, Refusal>
     ensures refusal { outcome result ≡ store_told nodes.now }
     ensures value { IfOk result (λ n. (n ≡ count nodes.now) × (n ≤ 131072) × (1 + 5 * n ≤ length nodes.now)) }
 {
-    if nodes.len() == 0 {
-        return Err(Refusal::BadStore(0));
-    }
-    let count = nodes[0];
+    let count = *nodes.first().ok_or(Refusal::BadStore(0))?;
     if count > MOST_NODES || 1 + 5 * count > nodes.len() as u64 {
         return Err(Refusal::BadStore(count));
     }
@@ -49,5 +46,5 @@ pub fn read_node(nodes: &[u64], i: u64) -> Option<Node>
     if i >= count {
         return None;
     }
-    Some(node_at(nodes, 1 + 5 * i as usize))
+    Some(nth_node(nodes, i as usize))
 }

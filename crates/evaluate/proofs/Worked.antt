@@ -1,7 +1,7 @@
 -- Nodes and what they come to: what a node says of those before it is its condition.
 use Rattle.std.proofs.Common.{◌≡◌, ℕ, ◌<◌, ◌≤◌, Bool, false, not, List, ◌++◌, length, get_or, take, sym, refl, ap, ◌∙◌, inl, inr}
 use Rattle.std.proofs.lemmas.Bool.{cases_lt, lt-ltb, le-ltb}
-use Rattle.std.proofs.lemmas.List.{get_or_read, get_or-take, get_or_append_left}
+use Rattle.std.proofs.lemmas.List.{get_or-take, get_or_append_left}
 use Rattle.condition.specs.Cond.{Cond}
 use Rattle.condition.specs.Store.{earlier, count, cond_at}
 use Rattle.condition.specs.Shapes.{node_of, Named}
@@ -37,6 +37,6 @@ pub past_right : (v : Filling) (nodes : List ℕ) (i : ℕ) → count nodes ≤ 
 unfolding holds
 past_right v nodes i l = rw (at_past nodes i l) refl
 
--- a value that was read behind what was worked out
-pub read_back : (bs rest : List Bool) (n i : ℕ) (r : Bool) → i < n → i < length bs → r ≡ get_or (take n (bs ++ rest)) i r → r ≡ get_or bs i false
-read_back bs rest n i r l m e = get_or_read bs i r m (e ∙ (get_or-take n (bs ++ rest) i r l ∙ get_or_append_left bs rest r i m)) false
+-- what was written to the front of a vector is what it holds there
+pub refilled_at : (bs rest : List Bool) (n j : ℕ) → j < n → j < length bs → get_or (take n (bs ++ rest)) j false ≡ get_or bs j false
+refilled_at bs rest n j l k = get_or-take n (bs ++ rest) j false l ∙ get_or_append_left bs rest false j k

@@ -13,7 +13,7 @@ mod sense;
 mod values;
 
 pub use sense::{Sense, before, work_out};
-pub use values::holds_at;
+pub use values::{holds_at, worked_out};
 
 // A number for each gap.
 #[derive(Clone, Copy)]

@@ -6,7 +6,7 @@ ghost use Rattle.condition.specs.Store.{count, has_name, earlier};
 ghost use Rattle.condition.specs.Shapes.{cell_of, node_of, Named};
 ghost use Rattle.evaluate.specs.Senses.{ComeTo};
 
-use condition::{Cell, Node, node_at};
+use condition::{Cell, Node, nth_node};
 
 // A sense in which conditions are taken: what each comes to follows from what its parts come to.
 pub trait Sense {
@@ -43,7 +43,7 @@ pub fn work_out<S: Sense>(nodes: &[u64], n: u64, sense: &S, values: &mut [S::Val
     ensures past { (j : ℕ) → n ≤ j → (x : S.Value) → slice_index_or values.new j x ≡ slice_index_or values.old j x }
 {
     for i in 0..n as usize {
-        let node = node_at(nodes, 1 + 5 * i);
+        let node = nth_node(nodes, i);
         let here = value(sense, node, values, i);
         values[i] = here;
     }

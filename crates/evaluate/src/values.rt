@@ -1,12 +1,13 @@
 // Whether conditions hold under a filling.
 #![tactic(auto, unfolding(crate::specs::Filling::holds))]
 
-ghost use Rattle.std.specs.Prelude.{◌≡◌, IfOk, Some, None, MatchResult};
-ghost use Rattle.condition.specs.Store.{store_told, cond_at};
+ghost use Rattle.std.specs.Prelude.{◌≡◌, ◌+◌, ◌*◌, ◌≤◌, length, vec_len, IfOk, Some, None, MatchResult};
+ghost use Rattle.condition.specs.Store.{count, store_told, cond_at};
 ghost use Rattle.condition.specs.Refusals.{told, first};
 ghost use Rattle.condition.specs.declared.Refusal.TheVariants.{NoMemory};
 ghost use Rattle.evaluate.specs.Filling.{holds};
 ghost use Rattle.evaluate.specs.Shapes.{numbers_of};
+ghost use Rattle.evaluate.specs.Values.{WorkedOut};
 
 use crate::Filling;
 use crate::sense::{Sense, work_out};
@@ -49,7 +50,21 @@ pub fn holds_at(heap: Global, nodes: &[u64], i: u64, filling: Filling) -> Result
     if i >= count {
         return Ok(false);
     }
-    let mut values = vec![in heap; false; i as usize + 1]?;
-    work_out(nodes, i + 1, &filling, values.as_mut_slice());
+    let values = worked_out(heap, nodes, i + 1, &filling)?;
     Ok(values[i as usize])
+}
+
+// Whether each of the first n conditions of a store holds under a filling.
+pub fn worked_out(
+    heap: Global,
+    nodes: &[u64],
+    n: u64,
+    filling: &Filling,
+) -> Result<Vec<bool>, Refusal>
+    requires stands { (n ≤ count nodes.now) × (1 + 5 * n ≤ length nodes.now) }
+    ensures { MatchResult result (λ v. WorkedOut (numbers_of filling.now) nodes.now n v.items × (vec_len v ≡ n)) (λ e. e ≡ NoMemory) }
+{
+    let mut values = vec![in heap; false; n as usize]?;
+    work_out(nodes, n, filling, values.as_mut_slice());
+    Ok(values)
 }

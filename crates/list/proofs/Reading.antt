@@ -1,6 +1,6 @@
 -- Lines and cells by their place.
 use Rattle.std.proofs.Common.{◌≡◌, ℕ, zero, suc, ◌+◌, ◌*◌, ◌<◌, ◌≤◌, Bool, true, false, cond as if, ltb, List, [], ◌∷◌, ◌++◌, map, length, get_or, take, drop, sym, refl, ap, ◌∙◌, add-zero, add_assoc, suc-mul, zero-mul, arith}
-use Rattle.std.proofs.lemmas.List.{get_or-drop, drop-drop, get_or_past, get_or-take, get_or_append_left, take_more, take_all, append-nil}
+use Rattle.std.proofs.lemmas.List.{get_or-drop, drop-drop, get_or_past, take_more, take_all, append-nil}
 use Rattle.std.specs.List.{range_with_len}
 use Rattle.std.proofs.lemmas.Bool.{ltb-true, and_parts}
 use Rattle.std.proofs.lemmas.Bool.Decides.{nat_tests}
@@ -145,10 +145,6 @@ unfolding filled
 no_list v nodes lists t l =
     let h : length (all_in nodes lists) ≤ t = rw (length_lists nodes (get_or lists 0 0) (drop 2 lists)) l in
     rw (get_or_past (all_in nodes lists) t [] h) refl
-
--- what was written to the front of a vector is what it holds there
-pub refilled_at : (bs rest : List Bool) (n j : ℕ) → j < n → j < length bs → get_or (take n (bs ++ rest)) j false ≡ get_or bs j false
-refilled_at bs rest n j l k = get_or-take n (bs ++ rest) j false l ∙ get_or_append_left bs rest false j k
 
 -- a cell of a line that fits is a number or one of the 64 gaps
 pub line_cell_named : (n w i a at : ℕ) (xs line : List ℕ) → i < n → a < w → line ≡ drop (at + i * line_size w) xs → lines_fit n w (drop at xs) ≡ true →

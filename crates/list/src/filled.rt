@@ -11,7 +11,7 @@ ghost use Rattle.list.specs.Shapes.{rows_of};
 
 use crate::{Line, Lines, Shape, Shapes, check};
 use condition::Refusal;
-use evaluate::{Filling, work_out};
+use evaluate::{Filling, worked_out};
 use std::alloc::Global;
 
 // The rows of list t under a filling; no rows for a t that is no list.
@@ -29,18 +29,8 @@ pub fn rows(
     let Some(shape) = Shapes::of(lists).get(t as usize) else {
         return Ok(Vec::new(heap));
     };
-    let values = worked_out(heap, nodes, &filling)?;
+    let values = worked_out(heap, nodes, nodes[0], &filling)?;
     filled_lines(heap, lists, shape, values.as_slice(), &filling)
-}
-
-// The values of all nodes of a store.
-fn worked_out(heap: Global, nodes: &[u64], filling: &Filling) -> Result<Vec<bool>, Refusal>
-    requires { store_told nodes.now ≡ None }
-    ensures { MatchResult result (λ v. WorkedOut (numbers_of filling.now) nodes.now (count nodes.now) v.items × (vec_len v ≡ count nodes.now)) (λ e. e ≡ NoMemory) }
-{
-    let mut values = vec![in heap; false; nodes[0] as usize]?;
-    work_out(nodes, nodes[0], filling, values.as_mut_slice());
-    Ok(values)
 }
 
 // The rows of those lines whose condition holds, by the values of the nodes.

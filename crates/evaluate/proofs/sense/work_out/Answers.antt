@@ -5,7 +5,7 @@ use Rattle.evaluate.proofs.sense.work_out.Goals as goal
 
 pub loop-i-preserved : goal.loop-i-preserved
 loop-i-preserved g c =
-    let i = c.loop-i.i in let nodes = c.args.nodes.now in let node = c.node_at-node in
+    let i = c.loop-i.i in let nodes = c.args.nodes.now in let node = c.nth_node-node in
     let stands : i < count nodes = omega (arith, c.requires.stands.0) in (
       below_more _ _
           (λ k h x. let ne : k ≢ c.loop-i.i = omega arith in rw get_or-set_other (c.loop-i.invariant.0 k h x))

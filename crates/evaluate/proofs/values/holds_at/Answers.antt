@@ -1,6 +1,7 @@
-use Rattle.std.proofs.Common.{◌<◌, false, length, drop, ◌∙◌, arith, rules}
+use Rattle.std.proofs.Common.{◌<◌, false, length, ◌∙◌, arith, rules}
+use Rattle.std.proofs.lemmas.List.{get_or_read}
 use Rattle.evaluate.specs.Shapes.{numbers_of}
-use Rattle.evaluate.proofs.Worked.{past_right, read_back}
+use Rattle.evaluate.proofs.Worked.{past_right}
 use Rattle.evaluate.proofs.values.holds_at.Goals as goal
 
 pub returns-then-i-count : goal.returns-then-i-count
@@ -11,10 +12,9 @@ returns-then-i-count c = record {
 
 pub returns : goal.returns
 returns c =
-    let i = c.args.i in let bs = c.work_out.new.values in let n = c.in_ok-values.values.len in
-    let l : i < n = search rules in
+    let i = c.args.i in let bs = c.in_ok-values.values.items in
     let k : i < length bs = search rules in
     record {
       refusal = search rules;
-      value = read_back bs (drop (length bs) c.in_ok-values.values.items) n i c.index.result.now l k c.index.ensures ∙ c.work_out.ensures.values i (omega arith) false;
+      value = get_or_read bs i c.index.result.now k c.index.ensures false ∙ c.in_ok-values.ensures.0 i (omega arith);
     }

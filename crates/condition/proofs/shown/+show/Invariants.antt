@@ -1,4 +1,4 @@
-use Rattle.condition.proofs.shown.Condition.+show.Given as goal
+use Rattle.condition.proofs.shown.+show.Given as goal
 
 abbrev pub decreases-show : goal.decreases-show
 decreases-show g l = l.left.now

@@ -1,6 +1,6 @@
 use Rattle.std.proofs.Common.{◌<◌, false, length, drop, ◌∙◌, rules}
-use Rattle.list.proofs.Reading.{refilled_at}
-use Rattle.list.proofs.filled.worked_out.Goals as goal
+use Rattle.evaluate.proofs.Worked.{refilled_at}
+use Rattle.evaluate.proofs.values.worked_out.Goals as goal
 
 pub returns : goal.returns
 returns c = (
