@@ -1,6 +1,6 @@
 -- Each kind of sign by its numbers.
-use Rattle.std.proofs.Common.{◌≡◌, ℕ, suc, ◌-◌, ◌≤◌, List, [], ◌∷◌, length, get_or, take, drop, Option, Some, None, MatchOption, ◌<◌, ◌⊎◌, refl, ap, ◌∙◌, arith, length-drop}
-use Rattle.std.proofs.lemmas.List.{get_or-drop, drop-drop, take-take}
+use Rattle.std.proofs.Common.{◌≡◌, ℕ, suc, ◌-◌, ◌≤◌, List, [], ◌∷◌, length, get_or, take, drop, Option, Some, None, MatchOption, ◌<◌, ◌⊎◌, refl, sym, ap, ◌∙◌, arith, length-drop}
+use Rattle.std.proofs.lemmas.List.{get_or-drop, get_or-take, drop-drop, take-take}
 use Rattle.query.specs.Ask.{same, differ, is, is_not}
 use Rattle.query.specs.Shapes.{columns_of}
 use Rattle.query.specs.Tokens.{CutIs}
@@ -76,6 +76,10 @@ four xs k l m =
     let a = get_or-drop 2 xs 0 0 in let b = get_or-drop 2 xs 1 0 in let c = get_or-drop 2 xs 2 0 in let d = get_or-drop 2 xs 3 0 in
     let g : ◌≡◌ {A = List ℕ} (get_or xs 2 0 ∷ (get_or xs 3 0 ∷ (get_or xs 4 0 ∷ (get_or xs 5 0 ∷ [])))) (take 4 (drop 2 xs)) = cc in
     ap (take k) g ∙ take-take k 4 (drop 2 xs) m
+
+-- six numbers at the front
+pub at_front : (xs six : List ℕ) → take 6 xs ≡ six → (i : ℕ) → i < 6 → get_or six i 0 ≡ get_or xs i 0
+at_front xs six e i l = ap (λ ys. get_or ys i 0) (sym e) ∙ get_or-take 6 xs i 0 l
 
 -- columns made of four numbers
 pub cut_is : (o : Option Columns) (k : ℕ) (cs ps : List ℕ) → MatchOption o ((k ≡ 0) ⊎ (4 < k)) (λ c. (c.count ≡ k) × (columns_of c ≡ take k cs)) → (k ≤ 4 → take k cs ≡ ps) → CutIs o k ps

@@ -58,7 +58,7 @@ pub(crate) fn table(
     ensures { IfOk result (λ v. rows_of v ≡ slice_index_or (tables_in tables.now) t []) }
 {
     match tables.get(t) {
-        Some(rows) => copied(heap, rows.as_slice()),
+        Some(rows) => rows.clone(),
         None => Ok(Vec::new(heap)),
     }
 }
@@ -136,13 +136,6 @@ fn filtered<F: Fn(&[u64]) -> bool>(
         .filter(|row| keep(row.as_slice()))
         .map(|row| row.clone())
         .try_collect(heap)
-}
-
-// A copy of the rows.
-pub(crate) fn copied(heap: Global, rows: &[Vec<u64>]) -> Result<Vec<Vec<u64>>, AllocError>
-    ensures { IfOk result (λ v. rows_of v ≡ rows_in rows.now) }
-{
-    rows.iter().map(|row| row.clone()).try_collect(heap)
 }
 
 // Whether a row passes a test; a column past its end counts as 0.

@@ -1,5 +1,5 @@
 // Signs read into the parts of a question.
-ghost use Rattle.std.specs.Prelude.{◌≡◌, ℕ, ◌+◌, ◌*◌, ◌^◌, ◌<◌, ◌≤◌, true, false, List, length, drop, MatchOption, MatchResult, slice_index};
+ghost use Rattle.std.specs.Prelude.{◌≡◌, ℕ, ◌+◌, ◌*◌, ◌^◌, ◌<◌, ◌≤◌, true, false, List, length, take, drop, MatchOption, MatchResult, slice_index};
 ghost use Rattle.condition.specs.declared.Refusal.TheVariants.{BadQuestion};
 ghost use Rattle.list.specs.Shapes.{shape_of};
 ghost use Rattle.query.specs.Reading.{sign_in, reads, bad, test_fits};
@@ -33,21 +33,20 @@ enum Pair {
     Less,
 }
 
-// The sign at the front, if its kind is one.
-fn token_at(signs: &[u64]) -> Option<Token>
-    requires { 6 ≤ length signs.now }
-    ensures { TokenIs result (sign_in (slice_index signs.now 0) (drop 1 signs.now)) }
+// The sign at the front of the signs that begin with these six numbers, if its kind is one.
+fn token_of(six: [u64; 6]) -> Option<Token>
+    ensures { (signs : List ℕ) → take 6 signs ≡ six → TokenIs result (sign_in (slice_index signs 0) (drop 1 signs)) }
 {
-    let a = signs[1] as usize;
-    let b = signs[2] as usize;
-    match signs[0] {
+    let a = six[1] as usize;
+    let b = six[2] as usize;
+    match six[0] {
         0 => Some(Token::Listed(a)),
         1 => Some(Token::Single(One::Test(Test::Same(a, b)))),
         2 => Some(Token::Single(One::Test(Test::Differ(a, b)))),
-        3 => Some(Token::Single(One::Test(Test::Is(a, signs[2])))),
-        4 => Some(Token::Single(One::Test(Test::IsNot(a, signs[2])))),
+        3 => Some(Token::Single(One::Test(Test::Is(a, six[2])))),
+        4 => Some(Token::Single(One::Test(Test::IsNot(a, six[2])))),
         5 => {
-            let places = [b, signs[3] as usize, signs[4] as usize, signs[5] as usize];
+            let places = [b, six[3] as usize, six[4] as usize, six[5] as usize];
             Some(Token::Single(One::Cut(Columns::of(places, a))))
         }
         6 => Some(Token::Double(Pair::Joined)),
@@ -78,11 +77,11 @@ pub(crate) fn read<'a>(
     ensures { MatchResult result (λ p. Reads left (pairs_of shapes.now) at signs.now parts.old parts.new p.next p.rest.now) (λ e. (off : ℕ) × (e ≡ BadQuestion off) × (reads left (pairs_of shapes.now) at signs.now ≡ bad off)) }
 {
     let bad = Refusal::BadQuestion(at as u64);
-    if left == 0 || signs.len() < 6 {
+    if left == 0 {
         return Err(bad);
     }
-    let token = token_at(signs).ok_or(bad)?;
-    let behind = &signs[6..];
+    let (six, behind) = signs.split_first_chunk::<6>().ok_or(bad)?;
+    let token = token_of(*six).ok_or(bad)?;
     match token {
         Token::Listed(t) => {
             parts[at] = list_part(t, shapes).ok_or(bad)?;
