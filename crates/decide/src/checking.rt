@@ -4,7 +4,7 @@ ghost use Rattle.condition.specs.Refusals.{outcome};
 ghost use Rattle.list.specs.Layout.{line_size};
 ghost use Rattle.decide.specs.Sought.{known_of, deciding_of};
 ghost use Rattle.decide.specs.Standing.{whole_lines, answer_told, nine_told, Checked};
-ghost use Rattle.decide.specs.Surveying.{Surveyed, FewNamed};
+ghost use Rattle.decide.specs.Surveying.{FewNamed};
 
 use crate::counting::count_numbers;
 use crate::surveying::Survey;
@@ -41,7 +41,6 @@ pub(crate) fn check_answer(
 
 // The gaps that decide a row, where they are at most six, and the numbers that decide it at most eight.
 pub(crate) fn check_named_few(survey: &Survey) -> Result<ArrayVec<u64, 6>, Refusal>
-    requires { Surveyed survey.now.sought survey.now.marks.now survey.now.notes }
     ensures refusal { outcome result ≡ nine_told (known_of survey.now.sought) (deciding_of survey.now.sought) survey.now.sought.row.now }
     ensures value { IfOk result (λ gaps. FewNamed survey.now.notes gaps.items) }
 {

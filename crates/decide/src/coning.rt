@@ -7,11 +7,9 @@ ghost use Rattle.decide.specs.Counting.{counted};
 ghost use Rattle.decide.specs.Reaching.{marked};
 ghost use Rattle.decide.specs.Showing.{nodes_for};
 ghost use Rattle.decide.specs.Sought.{known_of, deciding_of};
-ghost use Rattle.decide.specs.Surveying.{Reached};
 
 use crate::building::{Cone, begin};
-use crate::marked::Marks;
-use crate::sought::Sought;
+use crate::surveying::Survey;
 use crate::task::Goal;
 use condition::Refusal;
 use std::alloc::Global;
@@ -24,11 +22,12 @@ pub(crate) struct RowCone {
 }
 
 // Copies what is known and what decides a row into a cone of its own; refused only for want of memory.
-pub(crate) fn build_cone(heap: Global, sought: &Sought, marks: &Marks) -> Result<RowCone, Refusal>
-    requires { Reached sought.now marks.now }
+pub(crate) fn build_cone(heap: Global, survey: &Survey) -> Result<RowCone, Refusal>
     ensures refused { IfErr result (λ e. e ≡ NoMemory) }
-    ensures coned { IfOk result (λ c. Coned (known_of sought.now) (deciding_of sought.now) sought.now.row.now c.nodes.items c.goal) }
+    ensures coned { IfOk result (λ c. Coned (known_of survey.now.sought) (deciding_of survey.now.sought) survey.now.sought.row.now c.nodes.items c.goal) }
 {
+    let sought = &survey.sought;
+    let marks = survey.marks;
     let count = sought.count();
     let marked = count_marks(marks, count);
     let size = cone_size(marked, sought.count_lines(), sought.row.len()).ok_or(Refusal::NoMemory)?;
@@ -36,8 +35,7 @@ pub(crate) fn build_cone(heap: Global, sought: &Sought, marks: &Marks) -> Result
     let mut places = vec![in heap; 0u64; count]?;
     let mut index = vec![in heap; 0u64; size / 2 + 1]?;
     let goal = fill_cone(
-        sought,
-        marks,
+        survey,
         places.as_mut_slice(),
         cone.as_mut_slice(),
         index.as_mut_slice(),
@@ -58,18 +56,13 @@ fn cone_size(marked: usize, lines: usize, w: usize) -> Option<usize>
 }
 
 // Copies what is known and what decides a row into a cone, and gives the places of the two conditions.
-fn fill_cone(
-    sought: &Sought,
-    marks: &Marks,
-    places: &mut [u64],
-    cone: &mut [u64],
-    index: &mut [u64],
-) -> Goal
-    requires reached { Reached sought.now marks.now }
-    requires room { 1 + 5 * (2 + counted (count sought.now.nodes.now) (marked marks.now) + nodes_for (length sought.now.row.now) (deciding_of sought.now)) ≤ length cone.old }
-    requires scratch { (count sought.now.nodes.now ≤ length places.old) × (0 < length index.old) }
-    ensures { Coned (known_of sought.now) (deciding_of sought.now) sought.now.row.now cone.new result }
+fn fill_cone(survey: &Survey, places: &mut [u64], cone: &mut [u64], index: &mut [u64]) -> Goal
+    requires room { 1 + 5 * (2 + counted (count survey.now.sought.nodes.now) (marked survey.now.marks.now) + nodes_for (length survey.now.sought.row.now) (deciding_of survey.now.sought)) ≤ length cone.old }
+    requires scratch { (count survey.now.sought.nodes.now ≤ length places.old) × (0 < length index.old) }
+    ensures { Coned (known_of survey.now.sought) (deciding_of survey.now.sought) survey.now.sought.row.now cone.new result }
 {
+    let sought = &survey.sought;
+    let marks = survey.marks;
     begin(cone);
     let mut cone = Cone { nodes: cone, index };
     cone.fold(sought.nodes, sought.nodes[0], marks, places);

@@ -7,7 +7,7 @@ ghost use Rattle.decide.specs.Folding.{Neat, Room, Built};
 ghost use Rattle.decide.specs.Building.{Same};
 
 use crate::building::Cone;
-use condition::{Node, add, node_at};
+use condition::{Node, add, nth_node};
 use std::hash::{BuildHasher, BuildHasherDefault, FoldHasher};
 
 // How many entries of an index are looked at for one node.
@@ -57,6 +57,6 @@ impl Cone<'_, '_> {
         requires behind { 2 ≤ place }
         ensures { result ≡ true → StandsAs self.now.nodes.now place node }
     {
-        place < self.nodes[0] && node_at(self.nodes, 1 + 5 * place as usize) == node
+        place < self.nodes[0] && nth_node(self.nodes, place as usize) == node
     }
 }

@@ -6,7 +6,7 @@ ghost use Rattle.condition.specs.Shapes.{Named};
 ghost use Rattle.condition.specs.Nodes.{decoded};
 ghost use Rattle.decide.specs.Reaching.{marked_places};
 
-use condition::{MOST_NODES, Node, node_at};
+use condition::{MOST_NODES, Node, nth_node};
 
 // A mark for each node that a store may have.
 pub(crate) type Marks = [bool; MOST_NODES as usize];
@@ -42,7 +42,7 @@ impl<'m> Marked<'_, 'm> {
         ensures read { result ≡ decoded self.now.nodes.now i }
         ensures named { Named result }
     {
-        node_at(self.nodes, 1 + 5 * i)
+        nth_node(self.nodes, i)
     }
 }
 

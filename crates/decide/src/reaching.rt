@@ -4,7 +4,7 @@ ghost use Rattle.condition.specs.Cond.{has};
 ghost use Rattle.condition.specs.Store.{count};
 ghost use Rattle.decide.specs.Reaching.{places_of, marked, Closed, AllCovered};
 
-use condition::{Node, node_at};
+use condition::{Node, nth_node};
 
 // Marks all that the marked ones of the first n nodes reach: of the first n nodes, what a marked one names is marked.
 pub(crate) fn close(nodes: &[u64], n: usize, marks: &mut [bool])
@@ -16,7 +16,7 @@ pub(crate) fn close(nodes: &[u64], n: usize, marks: &mut [bool])
 {
     for i in (0..n).rev() {
         if marks[i] {
-            mark_named(node_at(nodes, 1 + 5 * i), i, marks);
+            mark_named(nth_node(nodes, i), i, marks);
         }
     }
 }

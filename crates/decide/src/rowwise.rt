@@ -4,7 +4,7 @@ ghost use Rattle.condition.specs.declared.Refusal.TheVariants.{NoMemory};
 ghost use Rattle.list.specs.Layout.{lines_in, known_in};
 ghost use Rattle.decide.specs.Sought.{known_of, lines_of};
 ghost use Rattle.decide.specs.Standing.{DecideTold, TellsSure, TellsPossible, Decided};
-ghost use Rattle.decide.specs.Surveying.{Surveyed, FewNamed};
+ghost use Rattle.decide.specs.Surveying.{FewNamed};
 
 use crate::Standing;
 use crate::checking::{check_answer, check_named_few};
@@ -12,6 +12,7 @@ use crate::coning::build_cone;
 use crate::lanes::Rails;
 use crate::sought::Sought;
 use crate::surveying::Survey;
+use crate::task::Task;
 use crate::trying::try_all;
 use condition::{MOST_NODES, Refusal};
 use std::alloc::Global;
@@ -83,20 +84,18 @@ pub fn possible(
 
 // How a row stands, once what decides it is surveyed; refused only for want of memory.
 fn settle_row(heap: Global, survey: &Survey, gaps: &[u64]) -> Result<Standing, Refusal>
-    requires surveyed { Surveyed survey.now.sought survey.now.marks.now survey.now.notes }
-    requires few { FewNamed survey.now.notes gaps.now }
+    requires { FewNamed survey.now.notes gaps.now }
     ensures refused { IfErr result (λ e. e ≡ NoMemory) }
     ensures decided { IfOk result (Decided (known_of survey.now.sought) (lines_of survey.now.sought) survey.now.sought.row.now) }
 {
-    let cone = build_cone(heap, &survey.sought, survey.marks)?;
-    let count = cone.nodes[0] as usize;
-    let mut values = vec![in heap; Rails::default(); count]?;
-    let found = try_all(
+    let cone = build_cone(heap, survey)?;
+    let task = Task::of(
         cone.nodes.as_slice(),
         cone.goal,
         gaps,
         survey.notes.numbers(),
-        values.as_mut_slice(),
     );
+    let mut values = vec![in heap; Rails::default(); task.cone[0] as usize]?;
+    let found = try_all(&task, values.as_mut_slice());
     Ok(Standing::of(found.yes.is_some(), found.no.is_some()))
 }

@@ -93,6 +93,6 @@ fn extend(task: &Task, depth: usize, row: Row, next: &mut ArrayVec<Row, 256>)
 fn first(word: Word, rows: &Rows) -> Option<Row>
     ensures { First word rows.now.list.items result }
 {
-    let lane = (0..rows.list.len()).find(|l| word.test(*l))?;
-    Some(rows.list[lane])
+    let (_, row) = rows.list.iter().enumerate().find(|(l, _)| word.test(*l))?;
+    Some(*row)
 }

@@ -7,7 +7,7 @@ ghost use Rattle.evaluate.specs.Filling.{Filling};
 ghost use Rattle.decide.specs.Folding.{truth, Over, ComesTo, joined, vanishing, settling};
 
 use crate::building::Cone;
-use condition::{Cell, Node, node_at};
+use condition::{Cell, Node, nth_node};
 
 // A place of a cone, or a node that is to stand in it.
 #[derive(Clone, Copy)]
@@ -161,7 +161,7 @@ impl Cone<'_, '_> {
         ensures before { IfSome result (λ b. b < a) }
         ensures value { IfSome result (λ b. (v : Filling) → truth self.now.nodes.now v a ≡ not (truth self.now.nodes.now v b)) }
     {
-        match node_at(self.nodes, 1 + 5 * a as usize) {
+        match nth_node(self.nodes, a as usize) {
             Node::Not(b) => Some(b),
             _ => None,
         }

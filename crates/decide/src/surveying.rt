@@ -1,5 +1,6 @@
 // What decides a row: the nodes that are reached, and the gaps and numbers that are named.
 ghost use Rattle.std.specs.Prelude.{◌≡◌};
+ghost use Rattle.decide.specs.OneWay.{surveyed_once};
 ghost use Rattle.decide.specs.Surveying.{Surveyed};
 
 use crate::marked::Marks;
@@ -13,13 +14,14 @@ pub(crate) struct Survey<'a, 'm> {
     pub(crate) sought: Sought<'a>,
     pub(crate) marks: &'m Marks,
     pub(crate) notes: Notes,
+    // All that decides the row is marked, and all that it names is noted.
+    ghost surveyed: { Surveyed sought marks.now notes } by { surveyed_once sought marks.now notes },
 }
 
 impl<'a> Sought<'a> {
     // What decides the row: marks all that what is known and the lines that decide it reach, and notes what is named.
     pub(crate) fn survey<'m>(self, marks: &'m mut Marks) -> Survey<'a, 'm>
-        ensures sought { result.sought ≡ self.entry }
-        ensures surveyed { Surveyed self.entry result.marks.now result.notes }
+        ensures { result.sought ≡ self.entry }
     {
         let count = self.count();
         marks[..count].fill(false);

@@ -4,6 +4,7 @@ ghost use Rattle.condition.specs.Store.{count};
 ghost use Rattle.decide.specs.Goals.{SetUp};
 
 use crate::gaps::Gaps;
+use crate::pool::pool;
 use arrayvec::ArrayVec;
 
 // The places of two conditions in a store: what is known, and what a row is shown by.
@@ -23,4 +24,29 @@ pub(crate) struct Task<'a> {
     pub(crate) named: usize,
     ghost stands: { 1 + 5 * count cone.now ≤ length cone.now },
     ghost set_up: { SetUp cone.now goal gaps.names.items pool.items named },
+}
+
+impl<'a> Task<'a> {
+    ghost use Rattle.std.specs.Prelude.{◌≡◌, true};
+    ghost use Rattle.decide.specs.Goals.{goal_of};
+    ghost use Rattle.decide.specs.Trying.{Names};
+
+    // The gaps each once, and the numbers with as many fresh ones.
+    pub(crate) fn of(cone: &'a [u64], goal: Goal, gaps: &[u64], numbers: &[u64]) -> Task<'a>
+        requires store { 1 + 5 * count cone.now ≤ length cone.now }
+        requires few { (length gaps.now ≤ 6) × (length numbers.now ≤ 8) }
+        requires named { Names (goal_of cone.now goal true) gaps.now numbers.now }
+        ensures cone { result.cone.now ≡ cone.now }
+        ensures goal { result.goal ≡ goal }
+    {
+        let gaps = Gaps::listed(gaps);
+        let pool = pool(numbers, gaps.names.len());
+        Task {
+            cone,
+            goal,
+            gaps,
+            pool,
+            named: numbers.len(),
+        }
+    }
 }

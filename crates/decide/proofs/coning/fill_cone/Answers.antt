@@ -14,28 +14,28 @@ use Rattle.decide.proofs.coning.fill_cone.Goals as goal
 
 pub show_row-shows-requires-clause-placed : goal.show_row-shows-requires-clause-placed
 show_row-shows-requires-clause-placed c k l h =
-    let b : node_at (length c.args.sought.now.row.now) c.args.sought.now.answer.now k < count c.args.sought.now.nodes.now =
-    node_below (count c.args.sought.now.nodes.now) c.args.sought.now.lines (length c.args.sought.now.row.now) c.args.sought.now.answer.now k c.args.sought.now.named l in
-    (omega (arith, c.requires.scratch.0), c.fold.ensures.folds.stand (node_at (length c.args.sought.now.row.now) c.args.sought.now.answer.now k) b (c.requires.reached.lines k (omega arith) l h))
+    let b : node_at (length c.args.survey.now.sought.row.now) c.args.survey.now.sought.answer.now k < count c.args.survey.now.sought.nodes.now =
+    node_below (count c.args.survey.now.sought.nodes.now) c.args.survey.now.sought.lines (length c.args.survey.now.sought.row.now) c.args.survey.now.sought.answer.now k c.args.survey.now.sought.named l in
+    (omega (arith, c.requires.scratch.0), c.fold.ensures.folds.stand (node_at (length c.args.survey.now.sought.row.now) c.args.survey.now.sought.answer.now k) b (c.args.survey.now.surveyed.reached.lines k (omega arith) l h))
 
 pub returns : goal.returns
 returns c =
     let f = c.fold.ensures.folds in
-    let nodes = c.args.sought.now.nodes.now in let row = c.args.sought.now.row.now in let what = cond_at nodes c.args.sought.now.known in
+    let nodes = c.args.survey.now.sought.nodes.now in let row = c.args.survey.now.sought.row.now in let what = cond_at nodes c.args.survey.now.sought.known in
     let xs = c.fold.new.self.nodes.now in let ys = c.show_row-shows.new.self.nodes.now in
-    let ls = deciding_of c.args.sought.now in
+    let ls = deciding_of c.args.survey.now.sought in
     let ns = numbers_met what ls row in
     let gs = gaps_met what ls in
     let m : Means xs ys (nodes_for (length row) ls) (row_cells ls row) (shows ls row) c.show_row-shows.result =
-    c.show_row-shows.ensures.means (λ k l h. f.value (node_at (length row) c.args.sought.now.answer.now k)
-    (node_below (count nodes) c.args.sought.now.lines (length row) c.args.sought.now.answer.now k c.args.sought.now.named l) (c.requires.reached.lines k (omega arith) l h)) in
-    let p = get_or c.fold.new.places c.args.sought.now.known 0 in
-    let s : p < count xs = f.stand c.args.sought.now.known c.args.sought.now.stands c.requires.reached.known in
+    c.show_row-shows.ensures.means (λ k l h. f.value (node_at (length row) c.args.survey.now.sought.answer.now k)
+    (node_below (count nodes) c.args.survey.now.sought.lines (length row) c.args.survey.now.sought.answer.now k c.args.survey.now.sought.named l) (c.args.survey.now.surveyed.reached.lines k (omega arith) l h)) in
+    let p = get_or c.fold.new.places c.args.survey.now.sought.known 0 in
+    let s : p < count xs = f.stand c.args.survey.now.sought.known c.args.survey.now.sought.stands c.args.survey.now.surveyed.reached.known in
     let v : Covered ys ns gs =
-    m.covered ns gs (f.covered ns gs (c.begin.ensures.covered ns gs) (draws_all ns gs nodes (count nodes) c.args.marks.now (omega arith) c.requires.reached.covered)) (row_met what ls row) in
+    m.covered ns gs (f.covered ns gs (c.begin.ensures.covered ns gs) (draws_all ns gs nodes (count nodes) c.args.survey.now.marks.now (omega arith) c.args.survey.now.surveyed.reached.covered)) (row_met what ls row) in
     let d : Coned what ls row ys (record { known = p; shows = c.show_row-shows.result }) = record {
       store = m.grown.fits;
-      known = λ w. ap (holds w) (grown_cond xs ys m.grown p s) ∙ f.value c.args.sought.now.known c.args.sought.now.stands c.requires.reached.known w;
+      known = λ w. ap (holds w) (grown_cond xs ys m.grown p s) ∙ f.value c.args.survey.now.sought.known c.args.survey.now.sought.stands c.args.survey.now.surveyed.reached.known w;
       shows = m.value;
       known_inside = v p (omega (arith, m.grown.more));
       shows_inside = v c.show_row-shows.result m.stands;

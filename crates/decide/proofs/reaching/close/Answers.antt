@@ -8,7 +8,7 @@ pub loop-i-preserved-then-marks-i : goal.loop-i-preserved-then-marks-i
 loop-i-preserved-then-marks-i c =
     let e : c.loop-i.i - 1 + 1 ≡ c.loop-i.i = omega arith in
     closing_more c.args.nodes.now c.args.n (c.loop-i.i - 1) c.args.marks.now c.loop-i.marks c.mark_named.new.marks
-    (omega arith) c.requires.stands.0 c.if-marks-i.true (λ j. rw c.node_at.ensures.read at (c.mark_named.ensures j)) (rw e c.loop-i.invariant)
+    (omega arith) c.requires.stands.0 c.if-marks-i.true (λ j. rw c.nth_node.ensures.read at (c.mark_named.ensures j)) (rw e c.loop-i.invariant)
 
 pub returns-clause-closed : goal.returns-clause-closed
 returns-clause-closed c = λ k l h.

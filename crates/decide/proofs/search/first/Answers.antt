@@ -1,18 +1,16 @@
-use Rattle.std.proofs.Common.{◌≡◌, true, false, length, Some, None, ap, arith, rules}
+use Rattle.std.proofs.Common.{◌≡◌, ℕ, ◌+◌, true, false, None, arith, rules}
 use borrow.Author.Tests.{tests}
-use Rattle.std.proofs.lemmas.Iterator.{first_from_Range}
+use Rattle.std.proofs.lemmas.Iterator.{YieldsList-from_slice, first_from_find}
+use Rattle.std.proofs.lemmas.Iterator.Consumers.{YieldsList-from_enumerate}
+use Rattle.std.proofs.lemmas.List.FromFn.{length-enumerate_from, get_or-enumerate_from}
 use Rattle.decide.specs.Bit.{lane}
+use Rattle.decide.specs.Rows.{blank}
+use Rattle.decide.specs.declared.rows.Row.{Row}
 use Rattle.decide.proofs.search.first.Goals as goal
 
-pub returns-in_err-lane : goal.returns-in_err-lane
-returns-in_err-lane c =
-    let f = first_from_Range _ _ _ None (λ l. lane l c.args.word ≡ true) (λ l. lane l c.args.word ≡ false) c.in_err-lane.ensures.ran (λ x q k. search (rules, tests)) (λ x q k. search (rules, tests)) in
-    rw c.from_residual.ensures (λ l h. f l (omega arith) (omega (arith, c.len.ensures.value)))
-
-pub bounds-deref-lane : goal.bounds-deref-lane
-bounds-deref-lane c =
-    let f = first_from_Range _ _ _ (Some c.in_ok-lane.lane) (λ l. lane l c.args.word ≡ true) (λ l. lane l c.args.word ≡ false) c.in_ok-lane.ensures.ran (λ x q k. search (rules, tests)) (λ x q k. search (rules, tests)) in
-    omega (arith, f.1, c.len.ensures.value, ap length c.deref.ensures.0)
-
-pub offset_bounds-deref-lane : goal.offset_bounds-deref-lane
-offset_bounds-deref-lane c = let b = bounds-deref-lane c in omega (arith, b, c.args.rows.now.few)
+pub returns-in_err-row : goal.returns-in_err-row
+returns-in_err-row c =
+    let xs = c.args.rows.now.list.items in
+    let f = first_from_find _ _ None (λ (p : ℕ × Row). lane p.0 c.args.word ≡ true) (λ (p : ℕ × Row). lane p.0 c.args.word ≡ false) c.in_err-row.ensures.ran
+    (YieldsList-from_enumerate (YieldsList-from_slice xs (cc)) (cc)) (λ x q k. search (rules, tests)) (λ x q k. search (rules, tests)) in
+    rw c.from_residual.ensures (λ l h. let e : 0 + l ≡ l = omega arith in rw (get_or-enumerate_from 0 xs l (0, blank) h, e) at (f l (0, blank) (omega arith) (omega (arith, length-enumerate_from 0 xs))))

@@ -1,6 +1,6 @@
 use Rattle.std.proofs.Common.{arith}
 use Rattle.decide.proofs.Pools.{set_up}
-use Rattle.decide.proofs.trying.task.Goals as goal
+use Rattle.decide.proofs.task.Task.of.Goals as goal
 
 pub invariant_of-result-clause-set_up : goal.invariant_of-result-clause-set_up
 invariant_of-result-clause-set_up c =
