@@ -2,10 +2,11 @@
 #![tactic(auto)]
 
 use answer::{ask, with_room};
+use condition::Cell;
 use query::Question;
 use std::alloc::{AllocError, Global};
 use std::time::Instant;
-use std::{env, io};
+use std::{env, fmt, io};
 
 const REPEATS: u64 = 400;
 
@@ -31,6 +32,19 @@ struct Figures {
     nodes: u64,
     // The shortest time of several calls, in nanoseconds.
     time: u64,
+}
+
+// All but the time.
+impl fmt::Display for Figures {
+    fn fmt<W: fmt::Write>(&self, f: &mut fmt::Formatter<W>) -> fmt::Result {
+        let Figures {
+            lines,
+            cost,
+            nodes,
+            ..
+        } = *self;
+        write!(f, "{lines} lines, cost {cost}, {nodes} nodes added")
+    }
 }
 
 // Lists, and memory for an answer.
@@ -77,8 +91,9 @@ fn baptisms(rt: &HostRuntime, heap: Global) -> anyhow::Result<()> {
     let figures = measure(rt, &mut memory, &MOTHERS, 1)?;
     let join = Question::read(&BOOKS, &MOTHERS[12..30])?.cost();
     let test = figures.cost.saturating_sub(join);
-    show(rt, "child and woman", figures)?;
-    println!(rt; ", of the cost {join} for the join and {test} for the test")?;
+    println!(rt;
+        "child and woman: {figures}, of the cost {join} for the join and {test} for the test"
+    )?;
     Ok(())
 }
 
@@ -92,22 +107,15 @@ fn tell(
 ) -> anyhow::Result<()> {
     let repeats = if timed { REPEATS } else { 1 };
     let figures = measure(rt, memory, signs, repeats)?;
-    show(rt, name, figures)?;
     if timed {
         let tenths = figures.time.saturating_mul(10) / figures.cost.max(1);
         let whole = tenths / 10;
         let tenth = tenths % 10;
-        print!(rt; ", {whole}.{tenth} ns for each unit of cost")?;
+        println!(rt; "{name}: {figures}, {whole}.{tenth} ns for each unit of cost")?;
+    } else {
+        println!(rt; "{name}: {figures}")?;
     }
-    println!(rt; "")?;
     Ok(())
-}
-
-fn show(rt: &HostRuntime, name: &str, figures: Figures) -> io::Result<()> {
-    let lines = figures.lines;
-    let cost = figures.cost;
-    let nodes = figures.nodes;
-    print!(rt; "{name}: {lines} lines, cost {cost}, {nodes} nodes added")
 }
 
 // Asks a question of the lists several times, each time of a store with one node; a refusal is a fault of this program.
@@ -172,9 +180,12 @@ fn put_list(lists: &mut Vec<u64>, lines: u64, columns: u64) -> Result<(), AllocE
         lists.push(0)?;
         for a in 0..columns {
             let n = i.wrapping_mul(columns).wrapping_add(a) % 60;
-            let tag = if n % 3 == 0 { 1 } else { 0 };
-            lists.push(tag)?;
-            lists.push(n)?;
+            let cell = if n % 3 == 0 {
+                Cell::Gap(n)
+            } else {
+                Cell::Number(n)
+            };
+            lists.extend_from_slice(&<[u64; 2]>::from(cell))?;
         }
     }
     Ok(())

@@ -12,6 +12,7 @@ mod trial;
 mod trying;
 mod watching;
 
+use naming::MOST_GAPS;
 use questions::Asked;
 use reading::{Book, Input};
 use setting::Setting;
@@ -19,9 +20,6 @@ use std::io;
 use std::io::Read;
 use trial::Trial;
 use watching::Watch;
-
-// The most gaps of a file.
-const MOST_GAPS: usize = 6;
 
 fn main(rt: HostRuntime) -> anyhow::Result<()> {
     let heap = rt.alloc();

@@ -6,7 +6,8 @@ use crate::telling::Refusal;
 use std::alloc::{AllocError, Global};
 use std::collections::BTreeSet;
 
-const MOST_GAPS: usize = 6;
+// The most gaps of a file, and those that the lines of an answer may name.
+pub const MOST_GAPS: usize = 6;
 
 const MOST_NUMBERS: usize = 8;
 

@@ -174,7 +174,7 @@ fn tell(rt: &HostRuntime, case: &str, res: Result<u64, Refusal>) -> io::Result<(
     }
 }
 
-// What is told of something at each length that it may be cut to; what passes leaves no trace.
+// What is told of something at each length that it may be cut to, without the end of the line; what passes leaves no trace.
 fn tell_cut<F: Fn(usize) -> Option<Refusal>>(
     rt: &HostRuntime,
     what: &str,
@@ -188,7 +188,7 @@ fn tell_cut<F: Fn(usize) -> Option<Refusal>>(
         let (number, place) = refusal.told();
         print!(rt; " {number} {place},")?;
     }
-    println!(rt; "")
+    Ok(())
 }
 
 fn lists(rt: &HostRuntime) -> io::Result<()> {
@@ -198,9 +198,9 @@ fn lists(rt: &HostRuntime) -> io::Result<()> {
     Ok(())
 }
 
-// At most the first n of some numbers.
-fn front(numbers: &[u64], n: usize) -> &[u64] {
-    numbers.get(..n).unwrap_or(numbers)
+// At most the first n of some items.
+fn front<T>(items: &[T], n: usize) -> &[T] {
+    items.get(..n).unwrap_or(items)
 }
 
 // The lists cut at every length.
@@ -210,7 +210,8 @@ fn cut_lists(rt: &HostRuntime) -> io::Result<()> {
         "lists",
         LISTS.len(),
         |n| check_lists(front(&LISTS, n)).err(),
-    )
+    )?;
+    println!(rt; "")
 }
 
 fn stores(rt: &HostRuntime) -> io::Result<()> {
@@ -272,24 +273,23 @@ fn words(rt: &HostRuntime) -> io::Result<()> {
     println!(rt; "condition: {condition}")
 }
 
-// What is told of a file's lists, with at most two lines a list, and of its nodes.
+// What is told of a file's lists, with at most two lines a list: cut at each length, and whole.
 fn files(rt: &HostRuntime, heap: Global) -> io::Result<()> {
-    print!(rt; "a file of two lists cut at each length:")?;
-    for n in 0..FILE.len() + 1 {
-        let mut input = Input::new(&FILE[0..n]);
-        match read_lists(heap, &mut input, 2) {
-            Ok(lists) => {
-                let count = lists.len();
-                let left = input.left();
-                print!(rt; " {count} numbers and {left} bytes left")?;
-            }
-            Err(refusal) => {
-                let (number, place) = refusal.told();
-                print!(rt; " {number} {place},")?;
-            }
+    tell_cut(
+        rt,
+        "a file of two lists",
+        FILE.len(),
+        |n| read_lists(heap, &mut Input::new(front(&FILE, n)), 2).err(),
+    )?;
+    let mut input = Input::new(&FILE);
+    match read_lists(heap, &mut input, 2) {
+        Ok(lists) => {
+            let count = lists.len();
+            let left = input.left();
+            println!(rt; " {count} numbers and {left} bytes left")
         }
+        Err(refusal) => println!(rt; " {refusal}"),
     }
-    println!(rt; "")
 }
 
 // What is told of lists whose count, first lines and first columns are these.
@@ -377,7 +377,8 @@ fn cut_questions(rt: &HostRuntime) -> io::Result<()> {
         "a question",
         MOTHERS.len(),
         |n| Question::read(&LISTS, front(&MOTHERS, n)).err(),
-    )
+    )?;
+    println!(rt; "")
 }
 
 // Sixteen signs, and seventeen.

@@ -3,11 +3,12 @@
 #![tactic(auto)]
 
 use answer::{ask, with_room};
-use condition::{Refusal, cell_at};
+use condition::{Cell, Refusal, cell_at};
 use evaluate::{Filling, holds_at};
 use list::rows;
 use query::Question;
 use std::alloc::{AllocError, Global};
+use std::fmt;
 
 const SEED: u64 = 1791;
 
@@ -59,6 +60,29 @@ struct Score {
     kinds: [u64; 9],
 }
 
+// In three lines.
+impl fmt::Display for Score {
+    fn fmt<W: fmt::Write>(&self, f: &mut fmt::Formatter<W>) -> fmt::Result {
+        let Score {
+            answered,
+            too_large,
+            fillings,
+            rows,
+            kinds,
+        } = *self;
+        writeln!(
+            f,
+            "{answered} of {CASES} questions agreed, {too_large} too large to try"
+        )?;
+        writeln!(f, "{rows} rows under {fillings} fillings that fit")?;
+        write!(f, "signs by kind:")?;
+        for n in kinds {
+            write!(f, " {n}")?;
+        }
+        Ok(())
+    }
+}
+
 // What a filling shows of an answer: it does not fit what is known; so many rows, as wanted; or others.
 #[derive(Clone, Copy)]
 enum Shown {
@@ -85,21 +109,7 @@ fn run(rt: &HostRuntime) -> anyhow::Result<()> {
         let case = draw(heap, &mut random)?;
         trial(rt, heap, &case, &mut score)?;
     }
-    tell(rt, &score)
-}
-
-fn tell(rt: &HostRuntime, score: &Score) -> anyhow::Result<()> {
-    let answered = score.answered;
-    let fillings = score.fillings;
-    let rows = score.rows;
-    let too_large = score.too_large;
-    println!(rt; "{answered} of {CASES} questions agreed, {too_large} too large to try")?;
-    println!(rt; "{rows} rows under {fillings} fillings that fit")?;
-    print!(rt; "signs by kind:")?;
-    for n in score.kinds {
-        print!(rt; " {n}")?;
-    }
-    println!(rt; "")?;
+    println!(rt; "{score}")?;
     Ok(())
 }
 
@@ -131,15 +141,14 @@ fn draw_list(random: &mut Random, lists: &mut Vec<u64>) -> Result<(), AllocError
     Ok(())
 }
 
+// A number or a gap.
 fn draw_cell(random: &mut Random, numbers: &mut Vec<u64>) -> Result<(), AllocError> {
-    if random.below(2) == 0 {
-        numbers.push(0)?;
-        numbers.push(random.below(NUMBERS))?;
+    let cell = if random.below(2) == 0 {
+        Cell::Number(random.below(NUMBERS))
     } else {
-        numbers.push(1)?;
-        numbers.push(random.below(GAPS))?;
-    }
-    Ok(())
+        Cell::Gap(random.below(GAPS))
+    };
+    numbers.extend_from_slice(&<[u64; 2]>::from(cell))
 }
 
 // Nodes of all kinds, comparisons as often as all others; what they name may be a node before them or not.
@@ -270,22 +279,11 @@ fn compare(
     if !holds_at(heap, nodes, known, filling)? {
         return Ok(Shown::Unfit);
     }
-    let first = rows(heap, lists, case.nodes.as_slice(), 0, filling)?;
-    let second = rows(heap, lists, case.nodes.as_slice(), 1, filling)?;
-    let tables = two_tables(heap, first, second)?;
+    let tables: Vec<_> = (0..2)
+        .map(|list| rows(heap, lists, case.nodes.as_slice(), list, filling))
+        .try_collect(heap)?;
     let wanted = question.ask(heap, tables.as_slice())?;
     filled_rows(heap, nodes, out, filling, wanted.as_slice())
-}
-
-fn two_tables(
-    heap: Global,
-    first: Vec<Vec<u64>>,
-    second: Vec<Vec<u64>>,
-) -> Result<Vec<Vec<Vec<u64>>>, AllocError> {
-    let mut tables = Vec::new(heap);
-    tables.push(first)?;
-    tables.push(second)?;
-    Ok(tables)
 }
 
 // Whether the lines of an answer, two cells each, that hold under a filling are the rows wanted.
