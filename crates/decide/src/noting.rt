@@ -60,7 +60,7 @@ impl Notes {
         requires { cells_fit line.now.width (drop 1 line.now.numbers.now) ≡ true }
         ensures { NotesMore (cells_in line.now.width (drop 1 line.now.numbers.now)) self.old self.new }
     {
-        for a in 0..line.width() {
+        for a in 0..line.width {
             self.note(line.cell(a));
         }
     }

@@ -16,8 +16,8 @@ pub fn line_size(w: usize) -> usize
 // A line of so many cells, and what stands behind it.
 #[derive(Clone, Copy)]
 pub struct Line<'a> {
-    pub(crate) numbers: &'a [u64],
-    pub(crate) width: usize,
+    pub numbers: &'a [u64],
+    pub width: usize,
     pub ghost long: { line_size width ≤ length numbers.now },
 }
 
@@ -25,13 +25,6 @@ impl<'a> Line<'a> {
     ghost use Rattle.std.specs.Prelude.{slice_index};
     ghost use Rattle.condition.specs.Store.{cell_in};
     ghost use Rattle.condition.specs.Shapes.{cell_of};
-
-    // How many cells it has.
-    pub fn width(&self) -> usize
-        ensures { result ≡ self.now.width }
-    {
-        self.width
-    }
 
     // The node of its condition.
     pub fn node(&self) -> u64

@@ -6,11 +6,11 @@ use Rattle.decide.proofs.Noted.{notes_then}
 use Rattle.decide.proofs.noting.Notes.note_line.Goals as goal
 
 pub note-requires : goal.note-requires
-note-requires c = rw c.cell.ensures (cell_named c.args.line.now.width c.loop-a.a c.args.line.now.numbers.now (omega (arith, c.loop-a-test.true, c.width-a-end.ensures)) c.requires)
+note-requires c = rw c.cell.ensures (cell_named c.args.line.now.width c.loop-a.a c.args.line.now.numbers.now c.loop-a-test.true c.requires)
 
 pub loop-a-preserved : goal.loop-a-preserved
 loop-a-preserved c =
-    rw (cells_more c.args.line.now.width c.loop-a.a c.args.line.now.numbers.now (cell_of c.cell.result) (omega (arith, c.loop-a-test.true, c.width-a-end.ensures)) c.cell.ensures)
+    rw (cells_more c.args.line.now.width c.loop-a.a c.args.line.now.numbers.now (cell_of c.cell.result) c.loop-a-test.true c.cell.ensures)
     (notes_then (take c.loop-a.a (cells_in c.args.line.now.width (drop 1 c.args.line.now.numbers.now))) (cell_of c.cell.result ∷ []) c.args.self.now c.loop-a.self c.note.new.self c.loop-a.invariant c.note.ensures)
 
 pub returns : goal.returns
