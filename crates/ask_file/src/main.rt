@@ -1,10 +1,11 @@
-// Answers a file of questions on lists with gaps, read from standard input.
+// Answers a file of questions on lists with gaps, read from standard input, and tells which rows are sure and which possible.
 #![tactic(auto)]
 
 ghost use Rattle.std.specs.Prelude.{◌<◌, length, OnOk};
 
 use answer::{ask, with_room};
 use condition::{Condition, Refusal, cell_at};
+use decide::{Standing, decide_row};
 use file_bytes::{Input, read_lists, read_nodes};
 use list::{check, line_size};
 use query::Question;
@@ -65,7 +66,7 @@ fn answer_all(
 ) -> anyhow::Result<()> {
     while input.left() > 0 {
         match read_question(heap, input, book.lists.as_slice()) {
-            Ok(asked) => answer(rt, heap, book, &asked)?,
+            Ok(asked) => answer_one(rt, heap, book, &asked)?,
             Err(refusal) => {
                 println!(rt; "{refusal}")?;
                 return Ok(());
@@ -104,8 +105,8 @@ fn read_question(heap: Global, input: &mut Input, lists: &[u64]) -> Result<Asked
     })
 }
 
-// The answer line by line; or that it is too large.
-fn answer(rt: &HostRuntime, heap: Global, book: &Book, asked: &Asked) -> anyhow::Result<()> {
+// The answer line by line, and how the rows that are asked about stand; or that it is too large.
+fn answer_one(rt: &HostRuntime, heap: Global, book: &Book, asked: &Asked) -> anyhow::Result<()> {
     if let Err(refusal) = asked.question.check_size() {
         println!(rt; "{refusal}")?;
         return Ok(());
@@ -124,16 +125,71 @@ fn answer(rt: &HostRuntime, heap: Global, book: &Book, asked: &Asked) -> anyhow:
         nodes.as_mut_slice(),
         out.as_mut_slice(),
     ) {
-        Ok(_) => show_lines(rt, nodes.as_slice(), out.as_slice(), width)?,
+        Ok(lines) => {
+            let answer = Answer {
+                lists: book.lists.as_slice(),
+                nodes: nodes.as_slice(),
+                numbers: out.as_slice(),
+                lines,
+                width,
+            };
+            show_lines(rt, &answer)?;
+            tell_rows(rt, heap, &answer, asked.rows.as_slice())?;
+        }
         Err(refusal) => println!(rt; "{refusal}")?,
     }
     Ok(())
 }
 
-// The lines of an answer, w cells wide.
-fn show_lines(rt: &HostRuntime, nodes: &[u64], lines: &[u64], w: usize) -> io::Result<()> {
-    for line in lines.chunks_exact(w.saturating_mul(2).saturating_add(1)) {
-        show_line(rt, nodes, line)?;
+// An answer of so many lines and columns, with the store that it stands on.
+#[derive(Clone, Copy)]
+struct Answer<'a> {
+    lists: &'a [u64],
+    nodes: &'a [u64],
+    numbers: &'a [u64],
+    lines: u64,
+    width: usize,
+}
+
+// How each row stands; or why that is not told.
+fn tell_rows(rt: &HostRuntime, heap: Global, answer: &Answer, rows: &[u64]) -> io::Result<()> {
+    for row in rows.chunks_exact(answer.width.max(1)) {
+        let width = answer.width as u64;
+        match decide_row(
+            heap,
+            answer.lists,
+            answer.nodes,
+            answer.numbers,
+            answer.lines,
+            width,
+            row,
+        ) {
+            Ok(standing) => tell_row(rt, standing, row)?,
+            Err(refusal) => println!(rt; "{refusal}")?,
+        }
+    }
+    Ok(())
+}
+
+// How a row stands, and its numbers. Where nothing fits what is known, every row is sure.
+fn tell_row(rt: &HostRuntime, standing: Standing, row: &[u64]) -> io::Result<()> {
+    let word = match standing {
+        Standing::Sure | Standing::NothingFits => "sure",
+        Standing::Possible => "possible",
+        Standing::Impossible => "impossible",
+    };
+    print!(rt; "{word}")?;
+    for number in row {
+        print!(rt; " {number}")?;
+    }
+    println!(rt)
+}
+
+// The lines of an answer.
+fn show_lines(rt: &HostRuntime, answer: &Answer) -> io::Result<()> {
+    let size = answer.width.saturating_mul(2).saturating_add(1);
+    for line in answer.numbers.chunks_exact(size) {
+        show_line(rt, answer.nodes, line)?;
     }
     Ok(())
 }
