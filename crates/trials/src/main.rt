@@ -1,12 +1,13 @@
 // Random lists, conditions and questions: under every filling from a small range that fits what is known, the answer's rows beside
-// those that the question gives on the filled lists.
+// those that the question gives on the filled lists; and how a random row stands, beside what those fillings show.
 #![tactic(auto)]
 
 use answer::{ask, with_room};
 use condition::{Cell, Refusal, cell_at};
+use decide::{Standing, decide_row};
 use evaluate::{Filling, holds_at};
 use list::rows;
-use query::Question;
+use query::{Question, stands};
 use std::alloc::{AllocError, Global};
 use std::fmt;
 
@@ -21,6 +22,9 @@ const GAPS: u64 = 3;
 const NUMBERS: u64 = 3;
 
 const FILLINGS: u64 = 64;
+// Numbers that are tried in gaps for a row: all that may be named, which are 0 to 5, and a fresh one for each gap.
+const TRIED: u64 = 9;
+
 // The most lines times cost that are tried under all fillings.
 const MOST_WORK: u64 = 100000;
 
@@ -47,6 +51,7 @@ struct Case {
     lists: Vec<u64>,
     nodes: Vec<u64>,
     signs: Vec<u64>,
+    row: [u64; 2],
 }
 
 // How many questions came to what.
@@ -56,11 +61,14 @@ struct Score {
     too_large: u64,
     fillings: u64,
     rows: u64,
+    sure: u64,
+    possible: u64,
+    impossible: u64,
     // Signs of the questions that agreed, by kind.
     kinds: [u64; 9],
 }
 
-// In three lines.
+// In four lines.
 impl fmt::Display for Score {
     fn fmt<W: fmt::Write>(&self, f: &mut fmt::Formatter<W>) -> fmt::Result {
         let Score {
@@ -68,6 +76,9 @@ impl fmt::Display for Score {
             too_large,
             fillings,
             rows,
+            sure,
+            possible,
+            impossible,
             kinds,
         } = *self;
         writeln!(
@@ -75,6 +86,10 @@ impl fmt::Display for Score {
             "{answered} of {CASES} questions agreed, {too_large} too large to try"
         )?;
         writeln!(f, "{rows} rows under {fillings} fillings that fit")?;
+        writeln!(
+            f,
+            "a row each where no other gap is named: {sure} sure, {possible} possible, {impossible} impossible"
+        )?;
         write!(f, "signs by kind:")?;
         for n in kinds {
             write!(f, " {n}")?;
@@ -98,22 +113,27 @@ fn main(rt: HostRuntime) -> anyhow::Result<()> {
 fn run(rt: &HostRuntime) -> anyhow::Result<()> {
     let heap = rt.alloc();
     let mut random = Random { state: SEED };
+    let mut drawn = Random { state: SEED + 1 };
     let mut score = Score {
         answered: 0,
         too_large: 0,
         fillings: 0,
         rows: 0,
+        sure: 0,
+        possible: 0,
+        impossible: 0,
         kinds: [0; 9],
     };
     for _ in 0..CASES {
-        let case = draw(heap, &mut random)?;
+        let row = [drawn.below(4), drawn.below(4)];
+        let case = draw(heap, &mut random, row)?;
         trial(rt, heap, &case, &mut score)?;
     }
     println!(rt; "{score}")?;
     Ok(())
 }
 
-fn draw(heap: Global, random: &mut Random) -> Result<Case, AllocError> {
+fn draw(heap: Global, random: &mut Random, row: [u64; 2]) -> Result<Case, AllocError> {
     let mut lists = Vec::new(heap);
     lists.push(2)?;
     lists.push(random.below(NODES))?;
@@ -125,6 +145,7 @@ fn draw(heap: Global, random: &mut Random) -> Result<Case, AllocError> {
         lists,
         nodes,
         signs,
+        row,
     })
 }
 
@@ -229,21 +250,22 @@ fn trial(rt: &HostRuntime, heap: Global, case: &Case, score: &mut Score) -> anyh
     if let Err(refusal) = ask(lists, signs, nodes.as_mut_slice(), out.as_mut_slice()) {
         return fail(rt, case, "refused", refusal.told().0);
     }
-    for f in 0..FILLINGS {
-        match compare(
-            heap,
-            case,
-            &question,
-            nodes.as_slice(),
-            out.as_slice(),
-            filling(f),
-        ) {
-            Ok(Shown::Unfit) => {}
-            Ok(Shown::Agree(rows)) => {
-                score.fillings = score.fillings.saturating_add(1);
-                score.rows = score.rows.saturating_add(rows);
-            }
-            Ok(Shown::Differ) => return fail(rt, case, "differs under filling", f),
+    match try_fillings(
+        heap,
+        case,
+        &question,
+        nodes.as_slice(),
+        out.as_slice(),
+        score,
+    ) {
+        Ok(None) => {}
+        Ok(Some(f)) => return fail(rt, case, "differs under filling", f),
+        Err(refusal) => return fail(rt, case, "refused", refusal.told().0),
+    }
+    if !names_others(case) {
+        match standing(heap, case, &question, nodes.as_slice(), out.as_slice()) {
+            Ok(Some(standing)) => count_standing(standing, score),
+            Ok(None) => return fail(rt, case, "a row stands otherwise", 0),
             Err(refusal) => return fail(rt, case, "refused", refusal.told().0),
         }
     }
@@ -252,15 +274,81 @@ fn trial(rt: &HostRuntime, heap: Global, case: &Case, score: &mut Score) -> anyh
     Ok(())
 }
 
-// The filling whose numbers are the digits of f to the base four.
-fn filling(f: u64) -> Filling {
+// The answer under every filling; the first under which it differs, if one does.
+fn try_fillings(
+    heap: Global,
+    case: &Case,
+    question: &Question,
+    nodes: &[u64],
+    out: &[u64],
+    score: &mut Score,
+) -> Result<Option<u64>, Refusal> {
+    for f in 0..FILLINGS {
+        match compare(heap, case, question, nodes, out, filling(f, 4))? {
+            Shown::Unfit => {}
+            Shown::Agree(rows) => {
+                score.fillings = score.fillings.saturating_add(1);
+                score.rows = score.rows.saturating_add(rows);
+            }
+            Shown::Differ => return Ok(Some(f)),
+        }
+    }
+    Ok(None)
+}
+
+// Whether a comparison names a gap that is not tried.
+fn names_others(case: &Case) -> bool {
+    let Some((_, nodes)) = case.nodes.as_slice().split_first() else {
+        return false;
+    };
+    for node in nodes.chunks_exact(5) {
+        if node[0] == 2 && (is_other(node[1], node[2]) || is_other(node[3], node[4])) {
+            return true;
+        }
+    }
+    false
+}
+
+// Whether two numbers stand for a gap that is not tried.
+fn is_other(tag: u64, name: u64) -> bool {
+    tag != 0 && name >= GAPS
+}
+
+// How the row stands, if trying finds the same.
+fn standing(
+    heap: Global,
+    case: &Case,
+    question: &Question,
+    nodes: &[u64],
+    out: &[u64],
+) -> Result<Option<Standing>, Refusal> {
+    let lists = case.lists.as_slice();
+    let lines = question.lines();
+    let standing = decide_row(heap, lists, nodes, out, lines, 2, &case.row)?;
+    let mut shows = false;
+    let mut lacks = false;
+    for f in 0..TRIED * TRIED * TRIED {
+        if let Some(rows) = plain_rows(heap, case, question, filling(f, TRIED))? {
+            if stands(&case.row, rows.as_slice()) {
+                shows = true;
+            } else {
+                lacks = true;
+            }
+        }
+    }
+    let same = standing.is_possible() == shows && standing.is_sure() != lacks;
+    Ok(same.then_some(standing))
+}
+
+// The filling whose numbers are the digits of f to a base.
+fn filling(f: u64, base: u64) -> Filling {
     let mut filling = Filling::zeros();
     let mut rest = f;
     for gap in 0..GAPS {
-        if let Some(next) = filling.with(gap, rest % 4) {
+        if let Some(next) = filling.with(gap, rest % base.max(1)) {
             filling = next;
         }
-        rest /= 4;
+        rest /= base.max(1);
     }
     filling
 }
@@ -274,16 +362,30 @@ fn compare(
     out: &[u64],
     filling: Filling,
 ) -> Result<Shown, Refusal> {
+    match plain_rows(heap, case, question, filling)? {
+        Some(wanted) => filled_rows(heap, nodes, out, filling, wanted.as_slice()),
+        None => Ok(Shown::Unfit),
+    }
+}
+
+// The rows that the question gives on the filled lists, under a filling that fits what is known.
+fn plain_rows(
+    heap: Global,
+    case: &Case,
+    question: &Question,
+    filling: Filling,
+) -> Result<Option<Vec<Vec<u64>>>, Refusal> {
     let lists = case.lists.as_slice();
+    let nodes = case.nodes.as_slice();
     let known = lists.get(1).copied().unwrap_or(0);
     if !holds_at(heap, nodes, known, filling)? {
-        return Ok(Shown::Unfit);
+        return Ok(None);
     }
     let tables: Vec<_> = (0..2)
-        .map(|list| rows(heap, lists, case.nodes.as_slice(), list, filling))
+        .map(|list| rows(heap, lists, nodes, list, filling))
         .try_collect(heap)?;
-    let wanted = question.ask(heap, tables.as_slice())?;
-    filled_rows(heap, nodes, out, filling, wanted.as_slice())
+    let rows = question.ask(heap, tables.as_slice())?;
+    Ok(Some(rows))
 }
 
 // Whether the lines of an answer, two cells each, that hold under a filling are the rows wanted.
@@ -325,12 +427,23 @@ fn count_kinds(signs: &[u64], score: &mut Score) {
     }
 }
 
+// One more row that stands so; where nothing fits every row is sure.
+fn count_standing(standing: Standing, score: &mut Score) {
+    let count = match standing {
+        Standing::Sure | Standing::NothingFits => &mut score.sure,
+        Standing::Possible => &mut score.possible,
+        Standing::Impossible => &mut score.impossible,
+    };
+    *count = count.saturating_add(1);
+}
+
 // Shows the whole case that does not agree.
 fn fail(rt: &HostRuntime, case: &Case, why: &str, number: u64) -> anyhow::Result<()> {
     println!(rt; "{why} {number}")?;
     show(rt, "lists", case.lists.as_slice())?;
     show(rt, "nodes", case.nodes.as_slice())?;
-    show(rt, "signs", case.signs.as_slice())
+    show(rt, "signs", case.signs.as_slice())?;
+    show(rt, "row", &case.row)
 }
 
 fn show(rt: &HostRuntime, name: &str, numbers: &[u64]) -> anyhow::Result<()> {
