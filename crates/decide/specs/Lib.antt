@@ -21,3 +21,4 @@ pub mod Lanes
 pub mod Search
 pub mod Trying
 pub mod Cones
+pub mod Choice

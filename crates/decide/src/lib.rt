@@ -4,6 +4,7 @@
 ghost use Rattle.std.specs.Prelude.{◌≡◌};
 ghost use Rattle.decide.specs.Standing.{standing, is_sure, is_possible};
 ghost use Rattle.decide.specs.Deciding.{ByCondition, DecidingEnough, SureByName, DecidedWithin64Bits};
+ghost use Rattle.decide.specs.Choice.{OneChosen};
 ghost use Rattle.decide.specs.Might.{MightSound, MightExact, FewSteps, LeastStep, LeastAll};
 
 mod building;
@@ -111,4 +112,10 @@ pub fn least_step()
 
 pub fn least_all()
     ensures { LeastAll }
+{}
+
+// The filling that decides which rows may be sure: see specs/Choice.antt.
+
+pub fn one_chosen()
+    ensures { OneChosen }
 {}
