@@ -22,3 +22,4 @@ pub mod Search
 pub mod Trying
 pub mod Cones
 pub mod Choice
+pub mod Picking

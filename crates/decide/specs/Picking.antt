@@ -1,0 +1,58 @@
+-- The first filling that meets a goal: gap by gap, the first number of a given order that can be continued.
+--
+--   Opens task r n k              the number n may be tried next in the row r: it is number k of the pool, and named, in use, or the next
+--                                 fresh one
+--   Alive task depth r            some filling that goes on from r meets what is known with what is shown
+--   NoneWith task depth r n       none does that gives the next gap the number n
+--   Picks task order depth r s    s goes on from r with the first number of the order that may be tried and can be continued
+--   Picking task order depth r    the numbers of r for the first gaps are picked so, one after the other
+--   Ahead task order P            of two numbers of the pool at places of which P holds, the order has the first before the second
+--   OthersFirst task order        the order has the fresh numbers first, the last of them first, and then the named ones as they rise
+--   Rising task order             the order has all numbers as they rise
+--   FirstMet task r               the least filling: none that meets the goal gives the gaps, one after the other, earlier numbers
+use Rattle.std.specs.Prelude.{◌≡◌, ℕ, zero, suc, ◌+◌, ◌<◌, ◌≤◌, true, cond as if, ◌⊎◌, List, length, Some, None, Option, ◌==◌, slice_index}
+use Rattle.evaluate.specs.Filling.{Filling, put, holds}
+use Rattle.decide.specs.Might.{Extends, Dead, put_on, NoLater}
+use Rattle.decide.specs.Rows.{on_of, GoesOn, filling_of}
+use Rattle.decide.specs.Search.{tried, goal}
+use Rattle.decide.specs.declared.rows.Row.{Row}
+use Rattle.decide.specs.declared.task.Task.{Task}
+
+pub record Opens (task : Task) (r : Row) (n k : ℕ) : Type 0 where
+  pub low : k ≤ task.named + r.used
+  pub is : slice_index task.pool.items k ≡ n
+
+abbrev pub Alive : Task → ℕ → Row → Type 0
+Alive task depth r = (w : Filling) × Extends (on_of (tried task) depth) (filling_of (tried task) r) w × (holds w (goal task true) ≡ true)
+
+abbrev pub NoneWith : Task → ℕ → Row → ℕ → Type 0
+NoneWith task depth r n =
+    let g = slice_index (tried task) depth in Dead (put_on (on_of (tried task) depth) g) (put (filling_of (tried task) r) g n) (goal task true)
+
+pub record Picks (task : Task) (order : List ℕ) (depth : ℕ) (r s : Row) : Type 0 where
+  pub at : ℕ
+  pub inside : at < length order
+  pub place : ℕ
+  pub opens : Opens task r (slice_index order at) place
+  pub goes : GoesOn r depth (slice_index order at) (if (place == task.named + r.used) (r.used + 1) r.used) s
+  pub alive : Alive task (depth + 1) s
+  pub sooner : (i k : ℕ) → i < at → Opens task r (slice_index order i) k → NoneWith task depth r (slice_index order i)
+
+unfoldable pub Picking : Task → List ℕ → ℕ → Row → Type 0
+Picking task order zero r = r.used ≡ 0
+Picking task order (suc depth) s = (r : Row) × Picking task order depth r × Picks task order depth r s
+
+abbrev pub Ahead : Task → List ℕ → (ℕ → ℕ → Type 0) → Type 0
+Ahead task order P =
+    (a b at : ℕ) → a < length task.pool.items → b < length task.pool.items → P a b → at < length order → slice_index order at ≡ slice_index task.pool.items b →
+    (i : ℕ) × (i < at) × (slice_index order i ≡ slice_index task.pool.items a)
+
+abbrev pub OthersFirst : Task → List ℕ → Type 0
+OthersFirst task order =
+    Ahead task order (λ a b. ((task.named ≤ a) × (b < a)) ⊎ ((a < task.named) × (b < task.named) × (slice_index task.pool.items a < slice_index task.pool.items b)))
+
+abbrev pub Rising : Task → List ℕ → Type 0
+Rising task order = Ahead task order (λ a b. slice_index task.pool.items a < slice_index task.pool.items b)
+
+abbrev pub FirstMet : Task → Row → Type 0
+FirstMet task r = (u : Filling) → holds u (goal task true) ≡ true → NoLater (tried task) (filling_of (tried task) r) u
