@@ -1,12 +1,12 @@
 -- The steps of the search over rows.
-use Rattle.std.proofs.Common.{◌≡◌, ℕ, ◌+◌, ◌<◌, ◌≤◌, Bool, true, false, cond as if, not, ◌&&◌, ◌||◌, eqb, ltb, ◌⊎◌, List, [], ◌∷◌, ◌++◌, length, get_or, take, is_some, Some, None, Option, sym, refl, ap, ◌∙◌, subst, inl, inr, arith, take_all, length-append}
+use Rattle.std.proofs.Common.{◌≡◌, ℕ, ◌+◌, ◌<◌, ◌≤◌, Bool, true, false, cond as if, not, ◌&&◌, ◌||◌, eqb, ltb, ◌⊎◌, List, [], ◌∷◌, ◌++◌, length, get_or, take, is_some, Some, None, Option, sym, refl, ap, ◌∙◌, subst, inl, inr, ⊎_elim, arith, take_all, length-append}
 use mathlib.Core.Path.{fun_ext}
 use Rattle.std.specs.List.{All}
 use Rattle.std.specs.Option.{option_map_or}
 use Rattle.std.proofs.Math.ListN.{get_or-append}
 use Rattle.std.proofs.lemmas.List.{get_or-take, get_or-append-add, length-take-le}
 use Rattle.std.proofs.lemmas.List.Elements.{All-nil, All-append, All-more, All-from_get_or}
-use Rattle.std.proofs.lemmas.Bool.{both_ways, cases_lt, lt-ltb, le-ltb, or_parts}
+use Rattle.std.proofs.lemmas.Bool.{both_ways, cases_Bool, cases_lt, eqb-true, ltb-true, lt-ltb, le-ltb, or_parts}
 use Rattle.condition.specs.Cond.{Cond, cells_of, numbers, gaps, has, Within}
 use Rattle.condition.proofs.Lists.{has_at}
 use Rattle.evaluate.specs.Filling.{Filling, put, holds}
@@ -14,18 +14,19 @@ use Rattle.evaluate.specs.Shapes.{numbers_of}
 use Rattle.evaluate.specs.declared.Filling as filled
 use Rattle.evaluate.proofs.Holding.{own_gaps}
 use Rattle.decide.specs.Bit.{lane}
-use Rattle.decide.specs.Might.{might, Dead, put_on}
+use Rattle.decide.specs.Might.{might, Extends, Dead, put_on}
 use Rattle.decide.specs.Sides.{side}
 use Rattle.decide.specs.Rows.{place, on_of, GoesOn, filling_of, blank, row}
 use Rattle.decide.specs.Goals.{Pool}
 use Rattle.decide.specs.Lanes.{Rails, Meets}
-use Rattle.decide.specs.Search.{tried, goal, Begun, Met, Sound, NoneFrom, Searched, wanted, OrFirst, Extended}
+use Rattle.decide.specs.Search.{tried, goal, Begun, Met, Sound, NoneFrom, GoFrom, Each, Searched, wanted, OrFirst, Extended}
 use Rattle.decide.specs.Trying.{Tried}
 use Rattle.decide.specs.declared.rows.Row.{Row}
+use Rattle.decide.specs.declared.words.Word.{Word}
 use Rattle.decide.specs.declared.task.Task.{Task}
 use Rattle.decide.proofs.Mights.{might_exact, dead_now}
 use Rattle.decide.proofs.Steps.{few_steps}
-use Rattle.decide.proofs.Listing.{found_at, has_place, on_more, filling_more}
+use Rattle.decide.proofs.Listing.{found_at, has_place, place_at, on_more, filling_more}
 
 front_has : (n : ℕ) (xs : List ℕ) (j : ℕ) → j < n → n ≤ length xs → has (take n xs) (get_or xs j 0) ≡ true
 front_has n xs j l m = subst (λ (y : ℕ). has (take n xs) y ≡ true) (get_or-take n xs j 0 l) (has_at (take n xs) j (omega (arith, length-take-le n xs m)))
@@ -64,12 +65,22 @@ module _ (task : Task) where
   pool_of : (t : Bool) → Pool (numbers (goal task t)) task.named task.pool.items
   pool_of t = subst (λ (ns : List ℕ). Pool ns task.named task.pool.items) (sym (same_numbers t)) task.set_up.numbers
 
+  -- a gap that is settled stays so
+  more_on : (depth k : ℕ) → on_of (tried task) depth k ≡ true → on_of (tried task) (depth + 1) k ≡ true
+  more_on depth k = go (place (tried task) k)
+    where
+      go : (o : Option ℕ) → option_map_or (λ p. ltb p depth) o false ≡ true → option_map_or (λ p. ltb p (depth + 1)) o false ≡ true
+      go None h = h
+      go (Some p) h = lt-ltb p (depth + 1) (omega (arith, ltb-true p depth h))
+
   -- the rows that were gathered go on from the first l rows, and what they leave is left
   pub record Gathered (depth : ℕ) (rows : List Row) (before : Met) (l : ℕ) (next : List Row) (met : Met) : Type 0 where
     pub begun : All (Begun task (depth + 1)) next
     pub sound : (t : Bool) → Sound task t (side t met)
     pub kept : (t : Bool) → is_some (side t met) ≡ false → is_some (side t before) ≡ false
     pub dead : (t : Bool) → is_some (side t met) ≡ false → All (NoneFrom task (depth + 1) t) next → All (NoneFrom task depth t) (take l rows)
+    pub from : (on : ℕ → Bool) (v : Filling) → ((k : ℕ) → on k ≡ true → on_of (tried task) depth k ≡ true) → All (GoFrom task on v) rows →
+        All (GoFrom task on v) next × ((t : Bool) → Each (GoFrom task on v) (side t before) → Each (GoFrom task on v) (side t met))
 
   module _ (depth : ℕ) (rows : List Row) (before : Met) where
     -- all gaps are settled
@@ -99,8 +110,14 @@ module _ (task : Task) where
         λ e. All-from_get_or (NoneFrom task depth t) rows blank (λ l k. dead_now (on_of (tried task) depth) (row (tried task) rows l) (goal task t) (sym (might-is l k t) ∙ f l k)),
       )
 
+      leaf_from : (P : Row → Type 0) → All P rows → (w : Word) (o p : Option Row) → OrFirst o w rows p → Each P o → Each P p
+      leaf_from P a w (Some s) p f h = subst (Each P) (sym f) h
+      leaf_from P a w None (Some r) f h = subst P (sym f.3) (a f.0 blank f.1)
+      leaf_from P a w None None f h = tt
+
       pub at_leaves : Searched task depth rows before after
       at_leaves = record {
+        from = λ on v _ a t h. leaf_from (GoFrom task on v) a (side t lanes) (side t before) (side t after) (firsts t) h;
         sound = λ t. (leaf_one t (side t before) (side t after) (sound t) (firsts t)).0;
         kept = λ t. (leaf_one t (side t before) (side t after) (sound t) (firsts t)).1;
         dead = λ t. (leaf_one t (side t before) (side t after) (sound t) (firsts t)).2;
@@ -114,7 +131,12 @@ module _ (task : Task) where
         sound = s.sound;
         kept = λ t e. g.kept t (s.kept t e);
         dead = λ t e _. g.dead t (s.kept t e) (s.dead t e);
+        from = λ on v low a. (All-nil (GoFrom task on v), found on v low a);
       }
+        where
+          found : (on : ℕ → Bool) (v : Filling) → ((k : ℕ) → on k ≡ true → on_of (tried task) depth k ≡ true) → All (GoFrom task on v) rows →
+              (t : Bool) → Each (GoFrom task on v) (side t before) → Each (GoFrom task on v) (side t after)
+          found on v low a t h = let f = g.from on v low a in s.from on v (λ k u. more_on depth k (low k u)) f.0 t (f.1 t h)
 
       -- and there are no more
       pub all_emptied : (after : Met) → length rows ≤ l → Searched task (depth + 1) next met after → Searched task depth rows before after
@@ -122,11 +144,12 @@ module _ (task : Task) where
         sound = s.sound;
         kept = λ t i. g.kept t (s.kept t i);
         dead = λ t i. subst (All (NoneFrom task depth t)) (take_all l rows h) (g.dead t (s.kept t i) (s.dead t i));
+        from = λ on v low a t i. let f = g.from on v low a in s.from on v (λ k u. more_on depth k (low k u)) f.0 t (f.1 t i);
       }
 
       -- a row in which nothing that is left might be found
       pub passed : l < length rows → (lanes : Rails) → Meets (tried task) depth rows task.cone.now task.goal lanes → wanted met lanes l ≡ false → Gathered depth rows before (l + 1) next met
-      passed u lanes m w = record { begun = g.begun; sound = g.sound; kept = g.kept; dead = λ t e d. All-more (NoneFrom task depth t) rows l blank u (g.dead t e d) (gone t e) }
+      passed u lanes m w = record { begun = g.begun; sound = g.sound; kept = g.kept; from = g.from; dead = λ t e d. All-more (NoneFrom task depth t) rows l blank u (g.dead t e d) (gone t e) }
         where
           left : (t : Bool) → is_some (side t met) ≡ false → lane l (side t lanes) ≡ false
           left true e = rw e at (or_parts (not (is_some met.yes) && lane l lanes.yes) (not (is_some met.no) && lane l lanes.no) w).0
@@ -184,6 +207,21 @@ module _ (task : Task) where
       pub more_begun : All (Begun task (depth + 1)) next → All (Begun task (depth + 1)) next₁
       more_begun a = rw x.behind (All-append (Begun task (depth + 1)) next x.added a added_begun)
 
+      -- where r goes on from, these do
+      pub more_from : (on : ℕ → Bool) (v : Filling) → ((k : ℕ) → on k ≡ true → on_of (tried task) depth k ≡ true) → GoFrom task on v r →
+          All (GoFrom task on v) next → All (GoFrom task on v) next₁
+      more_from on v low h a = rw x.behind (All-append (GoFrom task on v) next x.added a (All-from_get_or (GoFrom task on v) x.added blank (λ k l. each k (x.each k l))))
+        where
+          here : (k : ℕ) → on k ≡ true → eqb k gap ≡ false
+          here k u = ⊎_elim (λ e. absurd (both_ways _ (at_gap k e) (low k u))) (λ e. e) (cases_Bool (eqb k gap))
+            where
+              at_gap : (k : ℕ) → eqb k gap ≡ true → on_of (tried task) depth k ≡ false
+              at_gap k e = rw (eqb-true k gap e, place_at (tried task) task.gaps.distinct depth deep) (le-ltb depth depth (omega arith))
+
+          each : (k : ℕ) → GoesOn r depth (get_or task.pool.items k 0) (if (ltb k (task.named + r.used)) r.used (r.used + 1)) (get_or x.added k blank) →
+              GoFrom task on v (get_or x.added k blank)
+          each k g j u = ap (λ (f : Filling). f j) (next_filling (get_or x.added k blank) k _ g) ∙ (rw (here j u) refl ∙ h j u)
+
       -- where nothing comes of the rows that go on, nothing comes of r
       pub here_dead : (t : Bool) → All (NoneFrom task (depth + 1) t) next₁ → All (NoneFrom task (depth + 1) t) next × NoneFrom task depth t r
       here_dead t d = (
@@ -208,6 +246,7 @@ module _ (task : Task) where
     sound = g.sound;
     kept = g.kept;
     dead = λ t e d. let n = here_dead depth deep (get_or rows l blank) b next next₁ x t d in All-more (NoneFrom task depth t) rows l blank h (g.dead t e n.0) n.1;
+    from = λ on v low a. let f = g.from on v low a in (more_from depth deep (get_or rows l blank) b next next₁ x on v low (a l blank h) f.0, f.1);
   }
 
 -- the filling of a row, if there is one

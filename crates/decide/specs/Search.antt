@@ -5,15 +5,17 @@
 --   Begun task depth r         the row's numbers are of the pool: of the named ones, and of the first fresh ones, those in use
 --   Sound task t o             a row that was found meets its goal
 --   NoneFrom task depth t r    no filling that goes on from the row r meets the goal
+--   GoFrom task on v r         the row r goes on from v, where the gaps of on are settled
+--   Each P o                   P of what an option holds, if anything
 --   Searched .. before after   what was found, before a search and after it
 --   wanted m lanes l           whether a goal that has no row yet might be met in lane l
 --   First word rows o          the first row whose lane says yes; OrFirst s word rows o: unless there is one already
 --   Extended .. next next₁     the rows that go on from one row at the next gap, put behind others
 use Rattle.std.specs.Prelude.{◌≡◌, ℕ, ◌+◌, ◌<◌, ◌≤◌, Bool, true, false, cond as if, not, ◌&&◌, ◌||◌, List, ◌++◌, All, length, take, is_some, Some, None, Option, nat_lt, slice_index, slice_index_or}
 use Rattle.condition.specs.Cond.{Cond, has}
-use Rattle.evaluate.specs.Filling.{holds}
+use Rattle.evaluate.specs.Filling.{Filling, holds}
 use Rattle.decide.specs.Bit.{lane}
-use Rattle.decide.specs.Might.{Dead}
+use Rattle.decide.specs.Might.{Extends, Dead}
 use Rattle.decide.specs.Sides.{side}
 use Rattle.decide.specs.Rows.{on_of, GoesOn, filling_of, blank}
 use Rattle.decide.specs.Goals.{goal_of}
@@ -43,8 +45,18 @@ Sound task t None = Unit {0}
 abbrev pub NoneFrom : Task → ℕ → Bool → Row → Type 0
 NoneFrom task depth t r = Dead (on_of (tried task) depth) (filling_of (tried task) r) (goal task t)
 
+abbrev pub GoFrom : Task → (ℕ → Bool) → Filling → Row → Type 0
+GoFrom task on v r = Extends on v (filling_of (tried task) r)
+
+abbrev pub Each : (Row → Type 0) → Option Row → Type 0
+Each P (Some r) = P r
+Each P None = Unit {0}
+
 pub record Searched (task : Task) (depth : ℕ) (rows : List Row) (before after : Met) : Type 0 where
   pub sound : (t : Bool) → Sound task t (side t after)
+  -- what is found goes on from where the rows do
+  pub from : (on : ℕ → Bool) (v : Filling) → ((k : ℕ) → on k ≡ true → on_of (tried task) depth k ≡ true) → All (GoFrom task on v) rows →
+      (t : Bool) → Each (GoFrom task on v) (side t before) → Each (GoFrom task on v) (side t after)
   pub kept : (t : Bool) → is_some (side t after) ≡ false → is_some (side t before) ≡ false
   pub dead : (t : Bool) → is_some (side t after) ≡ false → All (NoneFrom task depth t) rows
 

@@ -19,6 +19,7 @@ mod lanes;
 mod marked;
 mod matching;
 mod noting;
+mod picking;
 mod pool;
 mod reaching;
 mod rows;
