@@ -28,18 +28,18 @@ use Rattle.decide.proofs.Mights.{might_exact, dead_now}
 use Rattle.decide.proofs.Steps.{few_steps}
 use Rattle.decide.proofs.Listing.{found_at, has_place, place_at, on_more, filling_more}
 
-front_has : (n : ℕ) (xs : List ℕ) (j : ℕ) → j < n → n ≤ length xs → has (take n xs) (get_or xs j 0) ≡ true
+pub front_has : (n : ℕ) (xs : List ℕ) (j : ℕ) → j < n → n ≤ length xs → has (take n xs) (get_or xs j 0) ≡ true
 front_has n xs j l m = subst (λ (y : ℕ). has (take n xs) y ≡ true) (get_or-take n xs j 0 l) (has_at (take n xs) j (omega (arith, length-take-le n xs m)))
 
 -- more of a list has no less
-front_more : (n k : ℕ) (xs : List ℕ) → n ≤ k → k ≤ length xs → (x : ℕ) → has (take n xs) x ≡ true → has (take k xs) x ≡ true
+pub front_more : (n k : ℕ) (xs : List ℕ) → n ≤ k → k ≤ length xs → (x : ℕ) → has (take n xs) x ≡ true → has (take k xs) x ≡ true
 front_more n k xs l m x h =
     let f : (j : ℕ) × (j < length (take n xs)) × (get_or (take n xs) j 0 ≡ x) = found_at (take n xs) x h in
     let b : f.0 < n = omega (arith, f.1, length-take-le n xs (omega arith)) in
     subst (λ (y : ℕ). has (take k xs) y ≡ true) (sym (get_or-take n xs f.0 0 b) ∙ f.2) (front_has k xs f.0 (omega arith) m)
 
 -- the numbers of the pool that are named or in use, and the next one, lead nowhere
-all_dead : (on : ℕ → Bool) (v : Filling) (c : Cond) (pool : List ℕ) (m n g : ℕ) → Pool (numbers c) m pool → ((k : ℕ) → on k ≡ true → has (take n pool) (v k) ≡ true) → m ≤ n → n < length pool
+pub all_dead : (on : ℕ → Bool) (v : Filling) (c : Cond) (pool : List ℕ) (m n g : ℕ) → Pool (numbers c) m pool → ((k : ℕ) → on k ≡ true → has (take n pool) (v k) ≡ true) → m ≤ n → n < length pool
     → ((j : ℕ) → j < n + 1 → Dead (put_on on g) (put v g (get_or pool j 0)) c) → Dead on v c
 unfolding Within
 all_dead on v c pool m n g q drawn l w all =
@@ -62,7 +62,7 @@ module _ (task : Task) where
   same_gaps true = refl
   same_gaps false = refl
 
-  pool_of : (t : Bool) → Pool (numbers (goal task t)) task.named task.pool.items
+  pub pool_of : (t : Bool) → Pool (numbers (goal task t)) task.named task.pool.items
   pool_of t = subst (λ (ns : List ℕ). Pool ns task.named task.pool.items) (sym (same_numbers t)) task.set_up.numbers
 
   -- a gap that is settled stays so
@@ -163,18 +163,18 @@ module _ (task : Task) where
     abbrev gap : ℕ
     gap = get_or (tried task) depth 0
 
-    on_next : on_of (tried task) (depth + 1) ≡ put_on (on_of (tried task) depth) gap
+    pub on_next : on_of (tried task) (depth + 1) ≡ put_on (on_of (tried task) depth) gap
     on_next = fun_ext (on_more (tried task) task.gaps.distinct depth deep)
 
-    room : task.named + r.used < length task.pool.items
+    pub room : task.named + r.used < length task.pool.items
     room = omega (arith, b.few, task.set_up.many)
 
     -- a row that goes on from r with number k of the pool
     module _ (s : Row) (k u : ℕ) (on : GoesOn r depth (get_or task.pool.items k 0) u s) where
-      next_filling : filling_of (tried task) s ≡ put (filling_of (tried task) r) gap (get_or task.pool.items k 0)
+      pub next_filling : filling_of (tried task) s ≡ put (filling_of (tried task) r) gap (get_or task.pool.items k 0)
       next_filling = fun_ext (filling_more (tried task) task.gaps.distinct depth deep r s (get_or task.pool.items k 0) u on)
 
-      next_begun : u ≤ r.used + 1 → r.used ≤ u → k < task.named + u → Begun task (depth + 1) s
+      pub next_begun : u ≤ r.used + 1 → r.used ≤ u → k < task.named + u → Begun task (depth + 1) s
       next_begun z o i = record { few = omega (arith, b.few, on.used); drawn = drawn }
         where
           fits : task.named + u ≤ length task.pool.items
@@ -190,7 +190,7 @@ module _ (task : Task) where
               rw on.used (subst (λ (v : Filling). has (take (task.named + u) task.pool.items) (v j) ≡ true) (sym next_filling)
               (by j (eqb j gap) refl (subst (λ (on : ℕ → Bool). on j ≡ true) on_next h)))
 
-      next_dead : (c : Cond) → Dead (on_of (tried task) (depth + 1)) (filling_of (tried task) s) c
+      pub next_dead : (c : Cond) → Dead (on_of (tried task) (depth + 1)) (filling_of (tried task) s) c
           → Dead (put_on (on_of (tried task) depth) gap) (put (filling_of (tried task) r) gap (get_or task.pool.items k 0)) c
       next_dead c d = subst (λ (on : ℕ → Bool). Dead on (put (filling_of (tried task) r) gap (get_or task.pool.items k 0)) c) on_next
           (subst (λ (v : Filling). Dead (on_of (tried task) (depth + 1)) v c) next_filling d)

@@ -29,3 +29,4 @@ pub mod Telling
 pub mod Drawn
 pub mod Goals
 pub mod Kept
+pub mod Picks

@@ -49,7 +49,9 @@ Opened task depth r n None = (k : ℕ) → Opens task r n k → ⊥
 pub record Picks (task : Task) (order : List ℕ) (depth : ℕ) (r s : Row) : Type 0 where
   pub at : ℕ
   pub inside : at < length order
-  pub opened : OpenedWith task depth r (slice_index order at) s
+  pub place : ℕ
+  pub opens : Opens task r (slice_index order at) place
+  pub goes : GoesOn r depth (slice_index order at) (if (place == task.named + r.used) (r.used + 1) r.used) s
   pub alive : Alive task (depth + 1) s
   pub sooner : (i k : ℕ) → i < at → Opens task r (slice_index order i) k → NoneWith task depth r (slice_index order i)
 
