@@ -23,3 +23,5 @@ pub mod Trying
 pub mod Cones
 pub mod Choice
 pub mod Picking
+pub mod Shapes
+pub mod SureRows

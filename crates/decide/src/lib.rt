@@ -7,7 +7,9 @@ ghost use Rattle.decide.specs.Deciding.{ByCondition, DecidingEnough, SureByName,
 ghost use Rattle.decide.specs.Choice.{OneChosen};
 ghost use Rattle.decide.specs.Might.{MightSound, MightExact, FewSteps, LeastStep, LeastAll};
 
+mod answered;
 mod building;
+mod candidates;
 mod checking;
 mod columns;
 mod coning;
