@@ -20,6 +20,7 @@ pub mod FewNumbers
 pub mod Meaning
 pub mod Mights
 pub mod Steps
+pub mod Choice
 pub mod Bits64
 pub mod Fours
 pub mod Pools

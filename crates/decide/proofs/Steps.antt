@@ -8,10 +8,10 @@ use Rattle.evaluate.proofs.Renaming.{holds_rename}
 use Rattle.decide.specs.Might.{Extends, Dead, put_on, NoLater, FewSteps, LeastStep, LeastAll}
 
 -- a and b change places
-swap : ℕ → ℕ → ℕ → ℕ
+pub swap : ℕ → ℕ → ℕ → ℕ
 swap a b x = if (eqb x a) b (if (eqb x b) a x)
 
-swap_a : (a b : ℕ) → swap a b a ≡ b
+pub swap_a : (a b : ℕ) → swap a b a ≡ b
 unfolding swap
 swap_a a b = rw (eqb_self a) refl
 
@@ -23,7 +23,7 @@ swap_b a b = go (eqb b a) refl
     go true e = rw e (eqb-true b a e)
     go false e = rw (e, eqb_self b) refl
 
-swap_other : (a b x : ℕ) → eqb x a ≡ false → eqb x b ≡ false → swap a b x ≡ x
+pub swap_other : (a b x : ℕ) → eqb x a ≡ false → eqb x b ≡ false → swap a b x ≡ x
 unfolding swap
 swap_other a b x p q = rw (p, q) refl
 
@@ -35,7 +35,7 @@ swap_twice a b x = go (eqb x a) refl (eqb x b) refl
     go false e true f = rw (eqb-true x b f) (ap (swap a b) (swap_b a b) ∙ swap_a a b)
     go false e false f = ap (swap a b) (swap_other a b x e f) ∙ swap_other a b x e f
 
-swap_apart : (a b x y : ℕ) → swap a b x ≡ swap a b y → x ≡ y
+pub swap_apart : (a b x y : ℕ) → swap a b x ≡ swap a b y → x ≡ y
 swap_apart a b x y e = sym (swap_twice a b x) ∙ (ap (swap a b) e ∙ swap_twice a b y)
 
 -- a filling that goes on from here, and gives g the number x

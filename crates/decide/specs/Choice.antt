@@ -9,7 +9,7 @@
 --                         told by the first gap that has it
 --   Picked c gs ns xs     the numbers xs for the gaps gs are picked in that order: where a number is one of ns or was picked before,
 --                         those that come before it lead nowhere
-use Rattle.std.specs.Prelude.{◌≡◌, ℕ, ◌+◌, ◌-◌, ◌^◌, ◌<◌, ◌≤◌, Bool, true, false, cond as if, ◌⊎◌, List, length, unwrap_or, position, ◌==◌, nat_lt, slice_index}
+use Rattle.std.specs.Prelude.{◌≡◌, ℕ, ◌+◌, ◌-◌, ◌^◌, ◌<◌, ◌≤◌, true, false, cond as if, ◌⊎◌, List, length, unwrap_or, position, ◌==◌, nat_lt, slice_index}
 use Rattle.std.specs.Option.{option_map_or}
 use Rattle.condition.specs.Cond.{Cond, has}
 use Rattle.evaluate.specs.Filling.{Filling, holds}
