@@ -1,10 +1,10 @@
 -- Where the gaps stand that are tried, and one that is settled more.
-use Rattle.std.proofs.Common.{◌≡◌, ◌≢◌, ℕ, suc, ◌+◌, ◌<◌, ◌≤◌, Bool, true, false, cond as if, ◌||◌, eqb, ltb, ◌⊎◌, List, [], ◌∷◌, ◌++◌, length, get_or, Some, None, Option, sym, refl, ap, ◌∙◌, subst, inl, inr, arith, below_more, length-append}
+use Rattle.std.proofs.Common.{◌≡◌, ◌≢◌, ℕ, suc, ◌+◌, ◌<◌, ◌≤◌, Bool, true, false, cond as if, ◌||◌, eqb, ltb, ◌⊎◌, List, [], ◌∷◌, ◌++◌, length, get_or, take, Some, None, Option, sym, refl, ap, ◌∙◌, subst, inl, inr, arith, below_more, length-append}
 use Rattle.std.specs.List.{All, AllPairs, position_or_len, list_any}
 use Rattle.std.specs.Option.{option_map_or}
 use Rattle.std.proofs.lemmas.Bool.{both_ways, cases_eq, eq-eqb, ne_eqb, eqb-true, lt-ltb, or_cases}
 use Rattle.std.proofs.lemmas.Bool.Decides.{nat_tests}
-use Rattle.std.proofs.lemmas.List.{get_or_default}
+use Rattle.std.proofs.lemmas.List.{get_or_default, get_or-take, length-take-le, take_more}
 use Rattle.std.proofs.lemmas.List.Elements.{All-push}
 use Rattle.std.proofs.lemmas.List.Quantifiers.{position-Some, all_pairs_push}
 use Rattle.std.proofs.lemmas.List.Sums.{position_or_len_is}
@@ -56,13 +56,22 @@ pub record Collected (ks : List ℕ) (n : ℕ) (ns : List ℕ) : Type 0 where
   pub low : All (λ k. k < 64) ns
   pub distinct : Distinct ns
   pub all : (i : ℕ) → i < n → has ns (get_or ks i 0) ≡ true
+  -- they are left as they are where they rise
+  pub same : AllPairs (λ j k. j < k) ks → ns ≡ take n ks
 
-module _ (ks : List ℕ) (n : ℕ) (ns : List ℕ) (c : Collected ks n ns) where
+module _ (ks : List ℕ) (n : ℕ) (ns : List ℕ) (in-list : n < length ks) (c : Collected ks n ns) where
   pub collected_still : has ns (get_or ks n 0) ≡ true → Collected ks (n + 1) ns
-  collected_still h = record { few = omega (arith, c.few); low = c.low; distinct = c.distinct; all = below_more _ _ c.all h }
+  collected_still h = record { few = omega (arith, c.few); low = c.low; distinct = c.distinct; all = below_more _ _ c.all h; same = λ r. absurd (twice r) }
+    where
+      twice : AllPairs (λ j k. j < k) ks → ⊥
+      twice r =
+          let f : (j : ℕ) × (j < length (take n ks)) × (get_or (take n ks) j 0 ≡ get_or ks n 0) = found_at (take n ks) (get_or ks n 0) (rw (c.same r) at h) in
+          let b : f.0 < n = omega (arith, f.1, length-take-le n ks (omega arith)) in
+          omega (arith, r f.0 n 0 b in-list, f.2, get_or-take n ks f.0 0 b)
 
   pub collected_more : get_or ks n 0 < 64 → has ns (get_or ks n 0) ≡ false → Collected ks (n + 1) (ns ++ get_or ks n 0 ∷ [])
   collected_more l h = record {
+    same = λ r. ap (λ (xs : List ℕ). xs ++ get_or ks n 0 ∷ []) (c.same r) ∙ sym (take_more ks n 0 in-list);
     few = simp length-append (omega (arith, c.few));
     low = All-push (λ k. k < 64) ns (get_or ks n 0) c.low l;
     distinct = all_pairs_push (λ j k. j ≢ k) ns (get_or ks n 0) c.distinct (λ k d m e. both_ways (has ns (get_or ks n 0)) h (ap (has ns) (sym e ∙ get_or_default ns k d 0 m) ∙ has_at ns k m));

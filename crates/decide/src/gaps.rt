@@ -22,6 +22,7 @@ impl Gaps {
         requires low { (i : ℕ) → i < length gaps.now → slice_index gaps.now i < 64 }
         ensures few { length result.names.items ≤ length gaps.now }
         ensures all { Within gaps.now result.names.items }
+        ensures same { AllPairs (λ j k. j < k) gaps.now → result.names.items ≡ gaps.now }
     {
         let mut names = ArrayVec::new();
         for gap in gaps {

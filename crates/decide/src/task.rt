@@ -27,9 +27,9 @@ pub(crate) struct Task<'a> {
 }
 
 impl<'a> Task<'a> {
-    ghost use Rattle.std.specs.Prelude.{◌≡◌, true};
+    ghost use Rattle.std.specs.Prelude.{◌≡◌, ◌<◌, true, AllPairs, take, slice_index};
     ghost use Rattle.decide.specs.Goals.{goal_of};
-    ghost use Rattle.decide.specs.Trying.{Names};
+    ghost use Rattle.decide.specs.Trying.{Names, LeastOther};
 
     // The gaps each once, and the numbers with as many fresh ones.
     pub(crate) fn of(cone: &'a [u64], goal: Goal, gaps: &[u64], numbers: &[u64]) -> Task<'a>
@@ -38,6 +38,9 @@ impl<'a> Task<'a> {
         requires named { Names (goal_of cone.now goal true) gaps.now numbers.now }
         ensures cone { result.cone.now ≡ cone.now }
         ensures goal { result.goal ≡ goal }
+        ensures gaps { AllPairs (λ j k. j < k) gaps.now → result.gaps.names.items ≡ gaps.now }
+        ensures named { take result.named result.pool.items ≡ numbers.now }
+        ensures fresh { (p : ℕ) → result.named ≤ p → p < length result.pool.items → LeastOther (take p result.pool.items) (slice_index result.pool.items p) }
     {
         let gaps = Gaps::listed(gaps);
         let pool = pool(numbers, gaps.names.len());
