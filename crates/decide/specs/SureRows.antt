@@ -1,6 +1,7 @@
 -- The list of sure rows, and what is told of it.
 --
 --   InOrder rs               the rows rs are each there once, in order cell by cell
+--   ChosenFor c o            o is the chosen filling for c; or none, and then no filling meets c
 --   Candidates out v rs      rs are the rows of the list out under v whose numbers are all below 2^64, in order; so a number that stands
 --                            nowhere keeps a row out
 --   first_nine what out rs   number 9, for the first of the rows rs for which deciding it tells that
@@ -10,7 +11,7 @@
 --   RowsTold what out w size t   t is told of the list of sure rows, w cells wide, for a slice of such a size: 11, 9 or 12, or nothing
 --   SureRowsTold .. r        the result r tells these, or want of memory behind list_told
 --   Wrote rs n xs ys         ys is xs with the n rows rs at the front, one after the other
-use Rattle.std.specs.Prelude.{◌≡◌, ℕ, ◌+◌, ◌*◌, ◌/◌, ◌^◌, ◌<◌, true, false, ◌⊎◌, ◌↔◌, All, List, [], ◌∷◌, ◌++◌, length, drop, Some, None, Result, MatchResult, nat_le}
+use Rattle.std.specs.Prelude.{◌≡◌, ℕ, ◌+◌, ◌*◌, ◌/◌, ◌^◌, ◌<◌, true, false, ◌⊎◌, ◌↔◌, All, List, [], ◌∷◌, ◌++◌, length, drop, Some, None, Option, Result, MatchResult, nat_le}
 use Rattle.std.specs.List.{concat}
 use Rattle.std.specs.List.Sorted.{IsStrictlySortedBy}
 use Rattle.std.specs.Ordering.{nat_cmp}
@@ -26,10 +27,16 @@ use Rattle.query.specs.Ask.{Query}
 use Rattle.answer.specs.Promise.{Answers, Sure}
 use Rattle.decide.specs.Choice.{Chosen}
 use Rattle.decide.specs.Deciding.{deciding}
+use Rattle.decide.specs.Shapes.{chosen_of}
 use Rattle.decide.specs.Standing.{nine_told, answer_told}
+use Rattle.decide.specs.declared.candidates.Chosen as chosen
 
 abbrev pub InOrder : List Row → Type 0
 InOrder rs = IsStrictlySortedBy (slice_cmp nat_cmp) rs
+
+abbrev pub ChosenFor : Cond → Option chosen.Chosen → Type 0
+ChosenFor c (Some f) = Chosen c (chosen_of f)
+ChosenFor c None = (v : Filling) → holds v c ≡ false
 
 pub record Candidates (out : List Line) (v : Filling) (rs : List Row) : Type 0 where
   pub in_order : InOrder rs

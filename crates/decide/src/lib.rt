@@ -11,6 +11,7 @@ mod answered;
 mod building;
 mod candidates;
 mod checking;
+mod choosing;
 mod columns;
 mod coning;
 mod counting;
