@@ -31,3 +31,5 @@ pub mod Drawn
 pub mod Goals
 pub mod Kept
 pub mod Picks
+pub mod Trails
+pub mod Picking
