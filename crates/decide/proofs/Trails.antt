@@ -12,6 +12,7 @@ pub record Step (task : Task) (P : ℕ → ℕ → Type 0) (p k : ℕ) (r s : Ro
   pub goes : GoesOn r p (get_or task.pool.items k 0) (if (eqb k (task.named + r.used)) (r.used + 1) r.used) s
   pub earlier : (j : ℕ) → task.named + r.used < length task.pool.items → j ≤ task.named + r.used → P j k → NoneWith task p r (get_or task.pool.items j 0)
 
+-- the rows of a picking from the first, which has no fresh number in use, to the last, and the place in the pool of each number
 pub record Trail (task : Task) (P : ℕ → ℕ → Type 0) (depth : ℕ) (s : Row) : Type 0 where
   pub row : ℕ → Row
   pub place : ℕ → ℕ
@@ -25,7 +26,8 @@ module _ (task : Task) (order : List ℕ) (P : ℕ → ℕ → Type 0) (ahead : 
     low = c.opens.low;
     goes = rw (sym c.opens.is) at c.goes;
     earlier = λ j room l h.
-        let b : (i : ℕ) × (i < c.at) × (get_or order i 0 ≡ get_or task.pool.items j 0) = ahead j c.place c.at (omega arith) (omega (arith, c.opens.low)) h c.inside (sym c.opens.is) in
+        let b : (i : ℕ) × (i < c.at) × (get_or order i 0 ≡ get_or task.pool.items j 0) =
+        ahead j c.place c.at (omega arith) (omega (arith, c.opens.low)) h c.inside (sym c.opens.is) in
         subst (NoneWith task p r) b.2 (c.sooner b.0 j b.1 (record { low = l; is = sym b.2 }));
   }
 
@@ -111,7 +113,8 @@ module _ (task : Task) (P : ℕ → ℕ → Type 0) (depth : ℕ) (s : Row) (t :
       let e : suc p ≡ p + 1 = omega arith in
       by (next p (omega arith)) (rw e at i) (cases_lt k (open_at p)) (used_for p (omega arith) k h)
     where
-      by : Next p → k < open_at (p + 1) → (k < open_at p) ⊎ (open_at p ≤ k) → (k < open_at p → (q : ℕ) × (q < p) × (t.place q ≡ k)) → (q : ℕ) × (q < suc p) × (t.place q ≡ k)
+      by : Next p → k < open_at (p + 1) → (k < open_at p) ⊎ (open_at p ≤ k) → (k < open_at p → (q : ℕ) × (q < p) × (t.place q ≡ k)) →
+          (q : ℕ) × (q < suc p) × (t.place q ≡ k)
       by n v (inl j) f = let b : (q : ℕ) × (q < p) × (t.place q ≡ k) = f j in (b.0, omega (arith, b.1), b.2)
       by (inl n) v (inr j) f = (p, omega arith, omega (arith, n.0, n.1))
       by (inr n) v (inr j) f = absurd (omega (arith, n.1))
