@@ -32,4 +32,4 @@ pub mod Goals
 pub mod Kept
 pub mod Picks
 pub mod Trails
-pub mod Picking
+pub mod Picked

@@ -5,8 +5,8 @@
 --   Candidates out v rs      rs are the rows of the list out under v whose numbers are all below 2^64, in order; so a number that stands
 --                            nowhere keeps a row out
 --   first_nine what out rs   number 9, for the first of the rows rs for which deciding it tells that
---   SureRows what out rs     rs are the rows of out under every filling that fits, in order; so the sure ones for every question that
---                            out answers
+--   AlwaysThere what out r   the row r is one of out under every filling that fits
+--   SureRows what out rs     rs are these rows, in order; so the sure ones for every question that out answers
 --   list_told .. n w         what is told before any row is looked at: number 9 for what is known alone behind 1, 2, 3 and 7
 --   RowsTold what out w size t   t is told of the list of sure rows, w cells wide, for a slice of such a size: 11, 9 or 12, or nothing
 --   SureRowsTold .. r        the result r tells these, or want of memory behind list_told
@@ -46,9 +46,12 @@ unfoldable pub first_nine : Cond → List Line → List Row → Told
 first_nine what out [] = None
 first_nine what out (r ∷ rs) = first (nine_told what (deciding out r) r) (first_nine what out rs)
 
+abbrev pub AlwaysThere : Cond → List Line → Row → Type 0
+AlwaysThere what out r = (v : Filling) → holds v what ≡ true → stands r (filled v out) ≡ true
+
 pub record SureRows (what : Cond) (out : List Line) (rs : List Row) : Type 0 where
   pub in_order : InOrder rs
-  pub each : (r : Row) → (stands r rs ≡ true) ↔ ((v : Filling) → holds v what ≡ true → stands r (filled v out) ≡ true)
+  pub each : (r : Row) → (stands r rs ≡ true) ↔ AlwaysThere what out r
   pub sure : (ts : List (List Line)) (q : Query) → Answers what ts q out → (r : Row) → (stands r rs ≡ true) ↔ Sure what ts q r
 
 abbrev pub list_told : (lists nodes answer : List ℕ) → ℕ → ℕ → Told
