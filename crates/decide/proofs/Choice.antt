@@ -71,7 +71,7 @@ module _ (xs : List ℕ) (p : ℕ) (inside : p < length xs) where
   owner_is : owner xs p ≡ first_with xs p
   owner_is = let l : first_with xs p < length xs = omega (arith, first_low) in rw (lt-ltb (first_with xs p) (length xs) l) refl
 
-  owner_low : owner xs p ≤ p
+  pub owner_low : owner xs p ≤ p
   owner_low = rw owner_is first_low
 
   owner_same : get_or xs (owner xs p) 0 ≡ get_or xs p 0

@@ -75,16 +75,19 @@ module _ (q : Sought) (ms : List Bool) (s : Notes) (y : Surveyed q ms s) (names 
   unfolding Within
   numbers_tried n h = y.noted.all (omega (arith, f.numbers)) n (ap (λ t. has t n) (numbers_met_are q) ∙ h)
 
+  -- so a condition that names no others is decided by them
+  pub named_by : (c : Cond) → Covers (numbers_for q) (gaps_for q) (cells_of c) → Names c names (numbers_noted s)
+  unfolding Within
+  named_by c v = record {
+    low = λ i l. passing_low 64 (gap_noted s) (get_or names i 0) (ap (λ t. has t (get_or names i 0)) (sym f.gaps) ∙ has_at names i l);
+    gaps = λ k h. gaps_tried k (v.gaps k h);
+    numbers = λ n h. numbers_tried n (v.numbers n h);
+  }
+
   pub goal_named : (cone : List ℕ) (goal : Goal) → Coned (known_of q) (deciding_of q) q.row.now cone goal → Names (goal_of cone goal true) names (numbers_noted s)
-  unfolding cells_of Within
-  goal_named cone goal d =
-      let v : Covers (numbers_for q) (gaps_for q) (cells_of (cond_at cone goal.known) ++ cells_of (cond_at cone goal.shows)) =
-      covers_both (numbers_for q) (gaps_for q) (cells_of (cond_at cone goal.known)) (cells_of (cond_at cone goal.shows)) d.known_inside d.shows_inside in
-      record {
-        low = λ i l. passing_low 64 (gap_noted s) (get_or names i 0) (ap (λ t. has t (get_or names i 0)) (sym f.gaps) ∙ has_at names i l);
-        gaps = λ k h. gaps_tried k (v.gaps k h);
-        numbers = λ n h. numbers_tried n (v.numbers n h);
-      }
+  unfolding cells_of
+  goal_named cone goal d = named_by (goal_of cone goal true)
+      (covers_both (numbers_for q) (gaps_for q) (cells_of (cond_at cone goal.known)) (cells_of (cond_at cone goal.shows)) d.known_inside d.shows_inside)
 
 -- a search that found a filling, or none, tells whether there is one
 tells : (c : Cond) (o : Option Filling) → Tried c o → Tells (is_some o) c

@@ -33,3 +33,4 @@ pub mod Kept
 pub mod Picks
 pub mod Trails
 pub mod Picked
+pub mod Alone

@@ -3,7 +3,7 @@ ghost use Rattle.std.specs.Prelude.{◌≡◌, ℕ, ◌<◌, ◌≤◌, true, Al
 ghost use Rattle.std.specs.List.Sorted.{IsNonDecreasing, IsPermutation};
 ghost use Rattle.condition.specs.Cond.{has};
 ghost use Rattle.condition.specs.declared.Refusal.TheVariants.{NoMemory};
-ghost use Rattle.decide.specs.Choice.{stand_in, number_of};
+ghost use Rattle.decide.specs.Choice.{owner, stand_in, number_of};
 ghost use Rattle.decide.specs.Picking.{OthersFirst};
 ghost use Rattle.decide.specs.Search.{tried};
 ghost use Rattle.decide.specs.Shapes.{value_of, chosen_of};
@@ -13,6 +13,7 @@ ghost use Rattle.decide.specs.Surveying.{FewNamed};
 
 use crate::candidates::{Choice, Chosen};
 use crate::coning::build_cone;
+use crate::gaps::first_place;
 use crate::lanes::Rails;
 use crate::picking::pick_first;
 use crate::rows::Row;
@@ -22,7 +23,6 @@ use crate::task::{Goal, Task};
 use arrayvec::ArrayVec;
 use condition::Refusal;
 use std::alloc::Global;
-use std::array;
 
 // The filling that fits what is known and gives a gap a number that stands nowhere wherever it can, if any filling fits; refused only
 // for want of memory.
@@ -76,9 +76,11 @@ fn risen(numbers: &[u64]) -> ArrayVec<u64, 14>
 fn chosen(task: &Task, row: &Row) -> Chosen
     ensures { (k : ℕ) → chosen_of result k ≡ number_of (tried task.now) (take task.now.named task.now.pool.items) row.now.numbers k }
 {
-    Chosen {
-        choices: array::from_fn(|k| choice(task, row, k as u64)),
+    let mut choices = [Choice::Nowhere(0); 64];
+    for gap in 0..64 {
+        choices[gap] = choice(task, row, gap as u64);
     }
+    Chosen { choices }
 }
 
 // What it gives one gap.
@@ -98,8 +100,18 @@ fn settled_choice(task: &Task, row: &Row, place: usize) -> Choice
 {
     let number = row.numbers[place];
     if task.pool[..task.named].contains(&number) {
-        return Choice::Number(number);
+        Choice::Number(number)
+    } else {
+        Choice::Nowhere(task.gaps.names[owner(row, place)])
     }
-    let owner = row.numbers.iter().position(|n| *n == number);
-    Choice::Nowhere(task.gaps.names[owner.unwrap_or(place)])
+}
+
+// The first place that has the number at a place.
+#[tactic(auto, unfolding(crate::specs::Rows::place))]
+fn owner(row: &Row, place: usize) -> usize
+    requires { place < length row.now.numbers }
+    ensures is { result ≡ owner row.now.numbers place }
+    ensures low { result ≤ place }
+{
+    first_place(&row.numbers, row.numbers[place]).unwrap_or(place)
 }

@@ -1,5 +1,6 @@
 // The gaps that are tried, each with its place.
 ghost use Rattle.std.specs.Prelude.{◌≡◌, ◌≢◌, ℕ, ◌<◌, ◌≤◌, All, AllPairs, length, slice_index};
+ghost use Rattle.decide.specs.Rows.{place};
 
 use arrayvec::ArrayVec;
 
@@ -14,7 +15,6 @@ pub(crate) struct Gaps {
 
 impl Gaps {
     ghost use Rattle.condition.specs.Cond.{Within};
-    ghost use Rattle.decide.specs.Rows.{place};
 
     // The gaps of a list, each once.
     pub(crate) fn listed(gaps: &[u64]) -> Gaps
@@ -34,10 +34,17 @@ impl Gaps {
     }
 
     // The place of a gap, if it is tried.
-    #[tactic(auto, unfolding(crate::specs::Rows::place))]
     pub(crate) fn place(&self, gap: u64) -> Option<usize>
         ensures { result ≡ place self.now.names.items gap }
     {
-        self.names.iter().position(|name| *name == gap)
+        first_place(&self.names, gap)
     }
+}
+
+// The first place of a number in a list, if it stands there.
+#[tactic(auto, unfolding(crate::specs::Rows::place))]
+pub(crate) fn first_place(numbers: &[u64], number: u64) -> Option<usize>
+    ensures { result ≡ place numbers.now number }
+{
+    numbers.iter().position(|n| *n == number)
 }

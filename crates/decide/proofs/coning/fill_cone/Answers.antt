@@ -34,7 +34,7 @@ returns c =
     let v : Covered ys ns gs =
     m.covered ns gs (f.covered ns gs (c.begin.ensures.covered ns gs) (draws_all ns gs nodes (count nodes) c.args.survey.now.marks.now (omega arith) c.args.survey.now.surveyed.reached.covered)) (row_met what ls row) in
     let d : Coned what ls row ys (record { known = p; shows = c.show_row-shows.result }) = record {
-      store = m.grown.fits;
+      begun = c.show_row-shows.new.self.begun;
       known = λ w. ap (holds w) (grown_cond xs ys m.grown p s) ∙ f.value c.args.survey.now.sought.known c.args.survey.now.sought.stands c.args.survey.now.surveyed.reached.known w;
       shows = m.value;
       known_inside = v p (omega (arith, m.grown.more));
