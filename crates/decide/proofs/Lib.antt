@@ -34,3 +34,4 @@ pub mod Picks
 pub mod Trails
 pub mod Picked
 pub mod Alone
+pub mod NamedRows
