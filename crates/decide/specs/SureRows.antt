@@ -2,6 +2,8 @@
 --
 --   InOrder rs               the rows rs are each there once, in order cell by cell
 --   ChosenFor c o            o is the chosen filling for c; or none, and then no filling meets c
+--   is_named r               whether the numbers of a row are all below 2^64, so none of them stands nowhere
+--   named_rows rs            those of the rows rs, as often and in the same order
 --   Candidates out v rs      rs are the rows of the list out under v whose numbers are all below 2^64, in order; so a number that stands
 --                            nowhere keeps a row out
 --   first_nine what out rs   number 9, for the first of the rows rs for which deciding it tells that
@@ -13,6 +15,8 @@
 --   Wrote rs n xs ys         ys is xs with the n rows rs at the front, one after the other
 use Rattle.std.specs.Prelude.{◌≡◌, ℕ, ◌+◌, ◌*◌, ◌/◌, ◌^◌, ◌<◌, true, false, ◌⊎◌, ◌↔◌, All, List, [], ◌∷◌, ◌++◌, length, drop, Some, None, Option, Result, MatchResult, nat_le}
 use Rattle.std.specs.List.{concat}
+use Rattle.std.specs.Prelude.{◌≡◌, ℕ, ◌*◌, ◌/◌, ◌^◌, ◌<◌, Bool, true, false, ◌⊎◌, ◌↔◌, All, List, [], ◌∷◌, ◌++◌, length, drop, filter, Some, None, Result, MatchResult, nat_lt, nat_le}
+use Rattle.std.specs.List.{concat, list_all}
 use Rattle.std.specs.List.Sorted.{IsStrictlySortedBy}
 use Rattle.std.specs.Ordering.{nat_cmp}
 use Rattle.std.specs.Cmp.Lexicographic.{slice_cmp}
@@ -37,6 +41,11 @@ InOrder rs = IsStrictlySortedBy (slice_cmp nat_cmp) rs
 abbrev pub ChosenFor : Cond → Option chosen.Chosen → Type 0
 ChosenFor c (Some f) = Chosen c (chosen_of f)
 ChosenFor c None = (v : Filling) → holds v c ≡ false
+abbrev pub is_named : Row → Bool
+is_named r = list_all (λ n. nat_lt n (2 ^ 64)) r
+
+unfoldable pub named_rows : List Row → List Row
+named_rows rs = filter is_named rs
 
 pub record Candidates (out : List Line) (v : Filling) (rs : List Row) : Type 0 where
   pub in_order : InOrder rs

@@ -3,14 +3,15 @@
 
 ghost use Rattle.std.specs.Prelude.{◌≡◌, ℕ, ◌^◌, ◌<◌, ◌≤◌, All, List, length, drop, IfOk, IfErr, MatchResult, MatchOption};
 ghost use Rattle.condition.specs.Shapes.{cell_of};
+ghost use Rattle.condition.specs.Store.{count};
 ghost use Rattle.condition.specs.declared.Refusal.TheVariants.{NoMemory};
 ghost use Rattle.evaluate.specs.Filling.{fill_cell, holds};
 ghost use Rattle.evaluate.specs.Values.{WorkedOut};
 ghost use Rattle.list.specs.Layout.{cells_in};
-ghost use Rattle.list.specs.Lists.{fill_cells};
+ghost use Rattle.list.specs.Lists.{fill_cells, filled};
 ghost use Rattle.list.specs.Shapes.{rows_of};
 ghost use Rattle.decide.specs.Shapes.{value_of, chosen_of, out_of};
-ghost use Rattle.decide.specs.SureRows.{Candidates};
+ghost use Rattle.decide.specs.SureRows.{Candidates, named_rows};
 
 use crate::answered::Answered;
 use condition::{Cell, Refusal};
@@ -99,7 +100,12 @@ fn named_rows(
     answered: &Answered,
     values: &[bool],
     chosen: &Chosen,
-) -> Result<Vec<Vec<u64>>, Refusal> {
+) -> Result<Vec<Vec<u64>>, Refusal>
+    requires all { length values.now ≡ count answered.now.nodes.now }
+    requires values { WorkedOut (chosen_of chosen.now) answered.now.nodes.now (length values.now) values.now }
+    ensures refused { IfErr result (λ e. e ≡ NoMemory) }
+    ensures rows { IfOk result (λ v. rows_of v ≡ named_rows (filled (chosen_of chosen.now) (out_of answered.now))) }
+{
     let mut rows = Vec::new(heap);
     for line in answered.answer_lines() {
         if values[line.node() as usize] {
