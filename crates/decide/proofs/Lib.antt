@@ -35,3 +35,4 @@ pub mod Trails
 pub mod Picked
 pub mod Alone
 pub mod NamedRows
+pub mod Sorted
