@@ -17,7 +17,7 @@ use Rattle.list.proofs.Reading.{length_cells, line_cell_at, line_named, filled_k
 use Rattle.evaluate.specs.Values.{WorkedOut}
 use Rattle.decide.specs.SureRows.{is_named, named_rows}
 use Rattle.decide.specs.declared.answered.Answered.{Answered}
-use Rattle.decide.proofs.Agreeing.{cells_more}
+use Rattle.decide.proofs.Agreeing.{cells_more, cells_all}
 
 pub length_fill : (v : Filling) (cs : List Cell) → length (fill_cells v cs) ≡ length cs
 unfolding fill_cells
@@ -32,6 +32,9 @@ module _ (v : Filling) (w a : ℕ) (line : List ℕ) (d : Cell) (inside : a < w)
 
   pub fill_here : get_or (fill_cells v (cells_in w (drop 1 line))) a 0 ≡ fill_cell v d
   fill_here = sym (fill_at v (cells_in w (drop 1 line)) a) ∙ ap (fill_cell v) (line_cell_at w a line (known 0) inside ∙ sym is)
+
+pub fill_all : (v : Filling) (w a : ℕ) (xs : List ℕ) → a ≡ w → fill_cells v (take a (cells_in w xs)) ≡ fill_cells v (cells_in w xs)
+fill_all v w a xs e = rw (e, cells_all w xs) refl
 
 pub length_row : (v : Filling) (w : ℕ) (xs : List ℕ) → length (fill_cells v (cells_in w xs)) ≡ w
 length_row v w xs = length_fill v (cells_in w xs) ∙ length_cells w xs
@@ -95,18 +98,23 @@ module _ (v : Filling) (nodes : List ℕ) (n w i : ℕ) (xs line : List ℕ) (bs
   abbrev before : List Row
   before = filled v (take i (lines_in nodes n w xs))
 
+  -- the rows of the lines up to this one
+  abbrev upto : List Row
+  upto = named_rows (filled v (take (i + 1) (lines_in nodes n w xs)))
+
   there : line ≡ drop (0 + i * line_size w) xs
   there = let z : 0 + i * line_size w ≡ i * line_size w = omega arith in rw z is
 
-  one_more : (b : Bool) → is_named row ≡ b → get_or bs (get_or line 0 0) false ≡ true → named_rows (filled v (take (i + 1) (lines_in nodes n w xs))) ≡ rows ++ if b (row ∷ []) []
+  one_more : (b : Bool) → is_named row ≡ b → get_or bs (get_or line 0 0) false ≡ true → upto ≡ rows ++ if b (row ∷ []) []
   one_more b e t =
-      ap named_rows (sym (filled_kept v nodes n w i 0 xs line bs before inside there valued below refl row refl t)) ∙ (named_app before (row ∷ []) ∙ rw (sofar, named_one row b e) refl)
+      ap named_rows (sym (filled_kept v nodes n w i 0 xs line bs before inside there valued below refl row refl t))
+      ∙ (named_app before (row ∷ []) ∙ rw (sofar, named_one row b e) refl)
 
-  pub named_kept : (r : Row) → r ≡ row → All (λ n. n < 2 ^ 64) r → get_or bs (get_or line 0 0) false ≡ true → rows ++ r ∷ [] ≡ named_rows (filled v (take (i + 1) (lines_in nodes n w xs)))
-  named_kept r e a t = rw e (sym (one_more true (named_true row (rw e at a)) t))
+  pub named_kept : (r : Row) → r ≡ row → is_named row ≡ true → get_or bs (get_or line 0 0) false ≡ true → rows ++ r ∷ [] ≡ upto
+  named_kept r e h t = rw e (sym (one_more true h t))
 
-  pub named_lost : (All (λ n. n < 2 ^ 64) row → ⊥) → get_or bs (get_or line 0 0) false ≡ true → rows ≡ named_rows (filled v (take (i + 1) (lines_in nodes n w xs)))
-  named_lost h t = sym (one_more false (named_false row h) t ∙ append-nil rows)
+  pub named_lost : is_named row ≡ false → get_or bs (get_or line 0 0) false ≡ true → rows ≡ upto
+  named_lost h t = sym (one_more false h t ∙ append-nil rows)
 
-  pub named_left : get_or bs (get_or line 0 0) false ≡ false → rows ≡ named_rows (filled v (take (i + 1) (lines_in nodes n w xs)))
+  pub named_left : get_or bs (get_or line 0 0) false ≡ false → rows ≡ upto
   named_left t = sofar ∙ ap named_rows (filled_left v nodes n w i 0 xs line bs before inside there valued below refl t)

@@ -1,5 +1,5 @@
 -- Rows sorted and each kept once: they are in order, and the same rows.
-use Rattle.std.proofs.Common.{◌≡◌, ℕ, ◌<◌, Bool, true, false, cond as if, ◌&&◌, All, List, [], ◌∷◌, map, length, get_or, vec_items, Vec, IsPermutation, Ordering, nat_eq, sym, refl, ap, ◌∙◌, inl, inr, arith, zero, suc, drop}
+use Rattle.std.proofs.Common.{◌≡◌, ℕ, zero, suc, ◌<◌, Bool, true, false, cond as if, ◌&&◌, All, List, [], ◌∷◌, map, length, get_or, drop, vec_items, Vec, IsPermutation, Ordering, nat_eq, sym, refl, ap, ◌∙◌, inl, inr, arith}
 use Rattle.std.specs.List.{Contains, dedup, dedup_from, AllByRecursion}
 use Rattle.std.specs.List.Sorted.{IsSorted, IsStrictlySortedBy}
 use Rattle.std.specs.Ordering.{nat_cmp}
@@ -20,12 +20,15 @@ use Rattle.decide.proofs.NamedRows.{length_row, named_true, named_all}
 
 -- a list by what it is mapped to
 module _ {X Y : Type 0} (f : X → Y) where
-  map_dedup_from : (same : Y → Y → Bool) (k : X) (xs : List X) → map f (dedup_from (λ x y. same (f x) (f y)) k xs) ≡ dedup_from same (f k) (map f xs)
+  abbrev kept : (Y → Y → Bool) → X → List X → List X
+  kept same k xs = dedup_from (λ x y. same (f x) (f y)) k xs
+
+  map_dedup_from : (same : Y → Y → Bool) (k : X) (xs : List X) → map f (kept same k xs) ≡ dedup_from same (f k) (map f xs)
   map_dedup_from same k [] = refl
   map_dedup_from same k (x ∷ xs) = go (same (f x) (f k)) (map_dedup_from same k xs) (map_dedup_from same x xs)
     where
-      go : (b : Bool) → map f (dedup_from (λ x y. same (f x) (f y)) k xs) ≡ dedup_from same (f k) (map f xs) → map f (dedup_from (λ x y. same (f x) (f y)) x xs) ≡ dedup_from same (f x) (map f xs) →
-          map f (if b (dedup_from (λ x y. same (f x) (f y)) k xs) (k ∷ dedup_from (λ x y. same (f x) (f y)) x xs)) ≡ if b (dedup_from same (f k) (map f xs)) (f k ∷ dedup_from same (f x) (map f xs))
+      go : (b : Bool) → map f (kept same k xs) ≡ dedup_from same (f k) (map f xs) → map f (kept same x xs) ≡ dedup_from same (f x) (map f xs) →
+          map f (if b (kept same k xs) (k ∷ kept same x xs)) ≡ if b (dedup_from same (f k) (map f xs)) (f k ∷ dedup_from same (f x) (map f xs))
       go true d e = d
       go false d e = ap (λ (ys : List Y). f k ∷ ys) e
 
@@ -68,8 +71,8 @@ contains_stands r rs h = stands_at r rs h.0 h.1 h.2
 pub stands_named : (r : Row) (rs : List Row) → stands r (named_rows rs) ≡ (stands r rs && is_named r)
 unfolding stands named_rows
 stands_named r [] = refl
-stands_named r (s ∷ rs) = 
-    let ih = stands_named r rs in 
+stands_named r (s ∷ rs) =
+    let ih = stands_named r rs in
     let e : same_row r s ≡ true → is_named r ≡ is_named s = λ h. ap is_named (same_row_is r s h) in
     grind (arith, ih, e)
 
@@ -90,32 +93,37 @@ filled_wide v nodes (suc n) w xs = go (holds v (cond_at nodes (get_or xs 0 0))) 
     go false h = h
 
 -- the named rows us, sorted as vs, of which ws are left
-module _ {Z : Type 0} (out : List Line) (v : Filling) (us vs ws : List (Vec ℕ Z)) (rows : map vec_items us ≡ named_rows (filled v out)) (moved : IsPermutation us vs)
-    (sorted : IsSorted (λ x y. slice_cmp nat_cmp x.items y.items) vs) (once : ws ≡ dedup (λ x y. pointwise nat_eq x.items y.items) vs) where
+module _ {Z : Type 0} (out : List Line) (v : Filling) (us vs ws : List (Vec ℕ Z)) (rows : map vec_items us ≡ named_rows (filled v out))
+    (moved : IsPermutation us vs) (sorted : IsSorted (λ x y. slice_cmp nat_cmp x.items y.items) vs) (once : ws ≡ dedup (λ x y. pointwise nat_eq x.items y.items) vs) where
+  abbrev named : List Row
+  named = named_rows (filled v out)
+
   left : map vec_items ws ≡ dedup (pointwise nat_eq) (map vec_items vs)
   left = ap (map vec_items) once ∙ map_dedup vec_items (pointwise nat_eq) vs
 
-  moved_rows : IsPermutation (named_rows (filled v out)) (map vec_items vs)
+  moved_rows : IsPermutation (named) (map vec_items vs)
   moved_rows = rw rows at (IsPermutation-map vec_items us vs moved)
 
-  was : (r : Row) → Contains (map vec_items ws) r → Contains (named_rows (filled v out)) r
+  was : (r : Row) → Contains (map vec_items ws) r → Contains (named) r
   was r h =
-      Contains-permutation (map vec_items vs) (named_rows (filled v out)) r (IsPermutation-sym (named_rows (filled v out)) (map vec_items vs) moved_rows)
+      Contains-permutation (map vec_items vs) (named) r (IsPermutation-sym (named) (map vec_items vs) moved_rows)
       (Contains-from_dedup (pointwise nat_eq) (map vec_items vs) r (rw left at h))
 
-  stays : (r : Row) → Contains (named_rows (filled v out)) r → Contains (map vec_items ws) r
+  stays : (r : Row) → Contains (named) r → Contains (map vec_items ws) r
   stays r h =
-      rw left (Contains-dedup nat_list_eq_equiv (λ x y. (bytes_decides x y).0) (map vec_items vs) r (Contains-permutation (named_rows (filled v out)) (map vec_items vs) r moved_rows h))
+      rw left
+      (Contains-dedup nat_list_eq_equiv (λ x y. (bytes_decides x y).0) (map vec_items vs) r (Contains-permutation (named) (map vec_items vs) r moved_rows h))
 
   pub sorted_candidates : Candidates out v (map vec_items ws)
   sorted_candidates = record {
-    in_order = map_strict vec_items (slice_cmp nat_cmp) ws (rw once (IsStrictlySortedBy-dedup (on_total vec_items nat_list_cmp_total) (λ x y. texts_ties x.items y.items) vs sorted));
+    in_order = map_strict vec_items (slice_cmp nat_cmp) ws
+        (rw once (IsStrictlySortedBy-dedup (on_total vec_items nat_list_cmp_total) (λ x y. texts_ties x.items y.items) vs sorted));
     each = λ r. (
       λ h.
-          let k = contains_stands r (named_rows (filled v out)) (was r (stands_contains r (map vec_items ws) h)) in
+          let k = contains_stands r (named) (was r (stands_contains r (map vec_items ws) h)) in
           let p = and_parts (stands r (filled v out)) (is_named r) (sym (stands_named r (filled v out)) ∙ k) in
           (p.0, named_all r p.1),
-      λ h. contains_stands r (map vec_items ws) (stays r (stands_contains r (named_rows (filled v out)) (stands_named r (filled v out) ∙ rw (h.0, named_true r h.1) refl))),
+      λ h. contains_stands r (map vec_items ws) (stays r (stands_contains r (named) (stands_named r (filled v out) ∙ rw (h.0, named_true r h.1) refl))),
     );
   }
 
@@ -123,4 +131,4 @@ module _ {Z : Type 0} (out : List Line) (v : Filling) (us vs ws : List (Vec ℕ 
   unfolding named_rows
   sorted_wide w h k d l =
       let r = get_or (map vec_items ws) k d in
-      All-contains (λ r. length r ≡ w) (named_rows (filled v out)) r (All-filter is_named (λ r. length r ≡ w) (filled v out) h) (was r (Contains-get_or (map vec_items ws) k d l))
+      All-contains (λ r. length r ≡ w) (named) r (All-filter is_named (λ r. length r ≡ w) (filled v out) h) (was r (Contains-get_or (map vec_items ws) k d l))

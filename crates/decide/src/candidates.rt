@@ -1,7 +1,7 @@
 // The rows that may be sure: those that an answer has under one filling, and that have no number that stands nowhere.
 #![tactic(auto, unfolding(evaluate::specs::Filling::holds))]
 
-ghost use Rattle.std.specs.Prelude.{◌≡◌, ℕ, ◌^◌, ◌<◌, ◌≤◌, All, List, length, drop, IfOk, IfErr, MatchResult, MatchOption};
+ghost use Rattle.std.specs.Prelude.{◌≡◌, All, length, drop, IfSome, IfOk, IfErr, is_some};
 ghost use Rattle.condition.specs.Shapes.{cell_of};
 ghost use Rattle.condition.specs.Store.{count};
 ghost use Rattle.condition.specs.declared.Refusal.TheVariants.{NoMemory};
@@ -11,7 +11,7 @@ ghost use Rattle.list.specs.Layout.{cells_in};
 ghost use Rattle.list.specs.Lists.{fill_cells, filled};
 ghost use Rattle.list.specs.Shapes.{rows_of};
 ghost use Rattle.decide.specs.Shapes.{value_of, chosen_of, out_of};
-ghost use Rattle.decide.specs.SureRows.{Candidates, named_rows};
+ghost use Rattle.decide.specs.SureRows.{Candidates, is_named, named_rows};
 
 use crate::answered::Answered;
 use condition::{Cell, Refusal};
@@ -120,7 +120,8 @@ fn named_rows(
 // The numbers of a line's cells, unless one of them stands nowhere.
 fn named_row(heap: Global, line: &Line, chosen: &Chosen) -> Result<Option<Vec<u64>>, Refusal>
     ensures refused { IfErr result (λ e. e ≡ NoMemory) }
-    ensures row { IfOk result (λ o. MatchOption o (All (λ n. n < 2 ^ 64) (fill_cells (chosen_of chosen.now) (cells_in line.now.width (drop 1 line.now.numbers.now))) → ⊥) (λ v. (v.items ≡ fill_cells (chosen_of chosen.now) (cells_in line.now.width (drop 1 line.now.numbers.now))) × All (λ n. n < 2 ^ 64) v.items)) }
+    ensures named { IfOk result (λ o. is_some o ≡ is_named (fill_cells (chosen_of chosen.now) (cells_in line.now.width (drop 1 line.now.numbers.now)))) }
+    ensures row { IfOk result (λ o. IfSome o (λ v. v.items ≡ fill_cells (chosen_of chosen.now) (cells_in line.now.width (drop 1 line.now.numbers.now)))) }
 {
     let mut row = Vec::new(heap);
     for a in 0..line.width {

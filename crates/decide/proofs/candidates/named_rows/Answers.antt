@@ -25,22 +25,24 @@ loop-line-preserved-in-Continue-branch-3 c =
     let v = chosen_of c.args.chosen.now in let a = c.args.answered.now in
     let k = met_next c.args.answered.now c.into_iter-line-iterator.result c.loop-line.line-iterator c.next.new.self c.loop-line.yielded c.next.result c.in-Some.line
     (ap lines_left c.into_iter-line-iterator.ensures.into_iter_gives ∙ c.answer_lines-line-items.ensures) c.loop-line.yielded_by c.next.ensures.steps c.in-Some.is in
-    let f = rw (c.in-Some-2.is, k.wide) at c.in_ok-row.ensures.row in
+    let h = rw (c.in-Some-2.is, k.wide) at c.in_ok-row.ensures.named in
+    let e = rw (c.in-Some-2.is, k.wide) at c.in_ok-row.ensures.row in
     rw (length-append c.loop-line.yielded (c.in-Some.line ∷ []))
-    (ap (map vec_items) c.in_ok-push.ensures.items ∙ (map_push vec_items (vec_items c.loop-line.rows) c.in-Some-2.row ∙ named_kept v a.nodes.now a.lines a.width (length c.loop-line.yielded) a.answer.now c.in-Some.line.numbers.now c.args.values.now (rows_of c.loop-line.rows)
+    (ap (map vec_items) c.in_ok-push.ensures.items ∙ (map_push vec_items (vec_items c.loop-line.rows) c.in-Some-2.row
+    ∙ named_kept v a.nodes.now a.lines a.width (length c.loop-line.yielded) a.answer.now c.in-Some.line.numbers.now c.args.values.now (rows_of c.loop-line.rows)
     k.inside k.is c.requires.values (rw (← c.requires.all) at k.stands) c.loop-line.invariant
-    (vec_items c.in-Some-2.row) f.0 f.1 (rw c.node.ensures at c.if-values-node.true)))
+    (vec_items c.in-Some-2.row) e (sym h) (rw c.node.ensures at c.if-values-node.true)))
 
 pub loop-line-preserved-in_default : goal.loop-line-preserved-in_default
 loop-line-preserved-in_default c =
     let v = chosen_of c.args.chosen.now in let a = c.args.answered.now in
     let k = met_next c.args.answered.now c.into_iter-line-iterator.result c.loop-line.line-iterator c.next.new.self c.loop-line.yielded c.next.result c.in-Some.line
     (ap lines_left c.into_iter-line-iterator.ensures.into_iter_gives ∙ c.answer_lines-line-items.ensures) c.loop-line.yielded_by c.next.ensures.steps c.in-Some.is in
-    let f = rw (c.in_default.is, k.wide) at c.in_ok-row.ensures.row in
+    let h = rw (c.in_default.is, k.wide) at c.in_ok-row.ensures.named in
     rw (length-append c.loop-line.yielded (c.in-Some.line ∷ []))
     (named_lost v a.nodes.now a.lines a.width (length c.loop-line.yielded) a.answer.now c.in-Some.line.numbers.now c.args.values.now (rows_of c.loop-line.rows)
     k.inside k.is c.requires.values (rw (← c.requires.all) at k.stands) c.loop-line.invariant
-    f (rw c.node.ensures at c.if-values-node.true))
+    (sym h) (rw c.node.ensures at c.if-values-node.true))
 
 pub loop-line-preserved : goal.loop-line-preserved
 loop-line-preserved c =
