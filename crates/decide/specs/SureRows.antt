@@ -41,6 +41,7 @@ InOrder rs = IsStrictlySortedBy (slice_cmp nat_cmp) rs
 abbrev pub ChosenFor : Cond → Option chosen.Chosen → Type 0
 ChosenFor c (Some f) = Chosen c (chosen_of f)
 ChosenFor c None = (v : Filling) → holds v c ≡ false
+
 abbrev pub is_named : Row → Bool
 is_named r = list_all (λ n. nat_lt n (2 ^ 64)) r
 

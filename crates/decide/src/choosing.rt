@@ -42,8 +42,11 @@ pub(crate) fn choose(
     };
     let task = Task::of(cone.nodes.as_slice(), goal, gaps, survey.notes.numbers());
     let mut values = vec![in heap; Rails::default(); task.cone[0] as usize]?;
-    let row = pick_first(&task, &others_first(&task), values.as_mut_slice());
-    Ok(row.map(|row| chosen(&task, &row)))
+    let order = others_first(&task);
+    let Some(row) = pick_first(&task, &order, values.as_mut_slice()) else {
+        return Ok(None);
+    };
+    Ok(Some(chosen(&task, &row)))
 }
 
 // The numbers to try, those that stand nowhere first: the fresh ones, the last of them first, and then the named ones as they rise.

@@ -5,7 +5,8 @@ use Rattle.decide.proofs.candidates.candidates.Goals as goal
 
 pub returns-clause-candidates : goal.returns-clause-candidates
 returns-clause-candidates c =
-    sorted_candidates (out_of c.args.answered.now) (chosen_of c.args.chosen.now) _ _ _ c.in_ok-rows.ensures.rows c.in_ok-sort.ensures.permutation c.in_ok-sort.ensures.sorted
+    let v = chosen_of c.args.chosen.now in let a = c.args.answered.now in
+    sorted_candidates (out_of a) v _ _ _ c.in_ok-rows.ensures.rows c.in_ok-sort.ensures.permutation c.in_ok-sort.ensures.sorted
     (dedup_is _ _ _ c.dedup.ensures.filtered)
 
 pub returns-clause-wide : goal.returns-clause-wide

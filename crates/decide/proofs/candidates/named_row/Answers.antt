@@ -22,7 +22,8 @@ loop-a-preserved c =
     let v = chosen_of c.args.chosen.now in let line = c.args.line.now in
     record {
       is = c.in_ok-push-in-Number.ensures.items
-          ∙ rw (c.loop-a.invariant.is, c.in-Number.ensures) (sym (fill_more v line.width c.loop-a.a line.numbers.now (cell_of c.cell.result) (search rules) c.cell.ensures));
+          ∙ rw (c.loop-a.invariant.is, c.in-Number.ensures)
+          (sym (fill_more v line.width c.loop-a.a line.numbers.now (cell_of c.cell.result) (search rules) c.cell.ensures));
       named = search rules;
     }
 
@@ -32,4 +33,6 @@ returns-clause-named c =
     sym (rw e at (named_true c.loop-a.row.items c.loop-a.invariant.named))
 
 pub returns-clause-row : goal.returns-clause-row
-returns-clause-row c = let line = c.args.line.now in c.loop-a.invariant.is ∙ fill_all (chosen_of c.args.chosen.now) line.width c.loop-a.a (drop 1 line.numbers.now) (omega arith)
+returns-clause-row c =
+    let line = c.args.line.now in
+    c.loop-a.invariant.is ∙ fill_all (chosen_of c.args.chosen.now) line.width c.loop-a.a (drop 1 line.numbers.now) (omega arith)

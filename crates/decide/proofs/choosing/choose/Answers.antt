@@ -1,20 +1,26 @@
-use Rattle.std.proofs.Common.{rules, ◌≡◌, ℕ, ◌<◌, ◌≤◌, true, AllPairs, length, take, drop, reverse, IfOk, IfErr, ◌++◌, slice_index, ◌+◌, ◌-◌, ◌*◌, ◌/◌, ◌%◌, Bool, false, nat_eq, nat_lt, List, [], ◌∷◌, slice_index_or, slice_set, bit_and, bit_or, Fits, w8, w32, w64, Bor, MutBor}
-use Rattle.std.specs.List.Sorted.{IsNonDecreasing, IsPermutation}
-use Rattle.condition.specs.Cond.{has}
-use Rattle.condition.specs.declared.Refusal.TheVariants.{NoMemory}
-use Rattle.decide.specs.Choice.{owner, stand_in, number_of}
-use Rattle.decide.specs.Picking.{OthersFirst}
+use Rattle.std.proofs.Common.{◌≡◌, AllPairs, length, take, sym, ◌∙◌, vec_items}
+use Rattle.decide.proofs.Alone.{rises, alone_named, picked_alone, none_alone}
+use Rattle.decide.specs.Noting.{gap_noted}
 use Rattle.decide.specs.Search.{tried}
-use Rattle.decide.specs.Shapes.{value_of, chosen_of}
-use Rattle.decide.specs.SureRows.{ChosenFor}
-use Rattle.decide.specs.Sought.{known_of}
-use Rattle.decide.specs.Surveying.{FewNamed}
 use Rattle.decide.proofs.choosing.choose.Goals as goal
 
--- src/choosing.rt:43:16
 pub of-task-requires-clause-named : goal.of-task-requires-clause-named
-of-task-requires-clause-named c = ?
+of-task-requires-clause-named c =
+    let s = c.args.survey.now in
+    rw (c.as_slice.ensures.value, c.numbers.ensures)
+    (alone_named s.sought s.marks.now s.notes s.surveyed c.args.gaps.now c.requires (vec_items c.in_ok-cone.cone.nodes) c.in_ok-cone.cone.goal c.in_ok-cone.ensures.coned)
 
--- src/choosing.rt:29:1
+pub returns-in_default-clause-chosen : goal.returns-in_default-clause-chosen
+returns-in_default-clause-chosen c =
+    let s = c.args.survey.now in let t = c.of-task.ensures in
+    let rising : AllPairs (λ j k. j < k) c.args.gaps.now = rw c.requires.gaps (rises 64 (gap_noted s.notes)) in
+    none_alone s.sought s.marks.now s.notes s.surveyed c.args.gaps.now c.requires (vec_items c.in_ok-cone.cone.nodes) c.in_ok-cone.cone.goal c.in_ok-cone.ensures.coned
+    c.of-task.result (t.cone ∙ c.as_slice.ensures.value) t.goal (t.gaps rising) (t.named ∙ c.numbers.ensures) c.others_first.result.items c.others_first.ensures.order ?
+
 pub returns-clause-chosen : goal.returns-clause-chosen
-returns-clause-chosen c = ?
+returns-clause-chosen c =
+    let s = c.args.survey.now in let t = c.of-task.ensures in
+    let rising : AllPairs (λ j k. j < k) c.args.gaps.now = rw c.requires.gaps (rises 64 (gap_noted s.notes)) in
+    picked_alone s.sought s.marks.now s.notes s.surveyed c.args.gaps.now c.requires (vec_items c.in_ok-cone.cone.nodes) c.in_ok-cone.cone.goal c.in_ok-cone.ensures.coned
+    c.of-task.result (t.cone ∙ c.as_slice.ensures.value) t.goal (t.gaps rising) (t.named ∙ c.numbers.ensures) c.others_first.result.items c.others_first.ensures.order
+    c.in-Some.row ? c.chosen.result c.chosen.ensures ?
