@@ -1,5 +1,5 @@
 -- What is known alone, without a row: the filling that is chosen for it.
-use Rattle.std.proofs.Common.{◌≡◌, ℕ, ◌+◌, ◌^◌, ◌<◌, ◌≤◌, true, false, ◌&&◌, List, length, get_or, take, Some, None, Option, sym, refl, ap, ◌∙◌, subst, arith}
+use Rattle.std.proofs.Common.{◌≡◌, ℕ, ◌+◌, ◌^◌, ◌<◌, ◌≤◌, Bool, true, false, ◌&&◌, List, length, get_or, take, Some, None, Option, sym, refl, ap, ◌∙◌, subst, arith}
 use mathlib.Core.Path.{fun_ext}
 use Rattle.std.specs.List.{AllPairs, range_with_len}
 use Rattle.std.specs.List.Sorted.{IsStrictlyIncreasing}
@@ -80,7 +80,7 @@ module _ (q : Sought) (ms : List Bool) (s : Notes) (y : Surveyed q ms s) (names 
     task_holds u = ap (holds u) task_goal ∙ alone_holds u
 
     rising : (a b : ℕ) → a < b → b < length (tried task) → get_or (tried task) a 0 < get_or (tried task) b 0
-    rising a b l h = (rw (gaps-are, f.gaps) (rises 64 (gap_noted s))) a 0 b 0 l h
+    rising a b l h = let up : AllPairs (λ j k. j < k) (tried task) = rw (gaps-are, f.gaps) (rises 64 (gap_noted s)) in up a 0 b 0 l h
 
     pub picked_alone : (r : Row) → length r.numbers ≡ 6 → (w : chosen.Chosen) → ((k : ℕ) → chosen_of w k ≡ number_of (tried task) (take task.named task.pool.items) r.numbers k) →
         PickedFirst task order (Some r) → Chosen (known_of q) (chosen_of w)
@@ -89,7 +89,7 @@ module _ (q : Sought) (ms : List Bool) (s : Notes) (y : Surveyed q ms s) (names 
         let b = begins_alive task r p.1 in
         chosen_like (goal task true) (known_of q) (number_of (tried task) (take task.named task.pool.items) r.numbers) (chosen_of w) task_holds (λ k. sym (is k))
         (choice.chosen (goal task true) (tried task) (take task.named task.pool.items) r.numbers rising task.set_up.held task.set_up.numbers.named
-        (λ n h. y.noted.low n (rw named-are at h)) (omega (arith, long, task.gaps.few)) (picked task order others r p.0) b.0 b.1.0 b.1.1)
+        (λ n h. y.noted.low n (rw named-are at h)) (omega (arith, long, task.gaps.few)) (picked task order others r p.0) b.0 b.1 b.2)
 
     pub none_alone : PickedFirst task order None → (v : Filling) → holds v (known_of q) ≡ false
     none_alone p v = sym (task_holds v) ∙ p v

@@ -36,3 +36,4 @@ pub mod Picked
 pub mod Alone
 pub mod NamedRows
 pub mod Sorted
+pub mod Ordering

@@ -1,4 +1,4 @@
-use Rattle.std.proofs.Common.{◌≡◌, AllPairs, length, take, sym, ◌∙◌, vec_items}
+use Rattle.std.proofs.Common.{◌≡◌, ◌<◌, AllPairs, ◌∙◌, vec_items}
 use Rattle.decide.proofs.Alone.{rises, alone_named, picked_alone, none_alone}
 use Rattle.decide.specs.Noting.{gap_noted}
 use Rattle.decide.specs.Search.{tried}
@@ -15,12 +15,12 @@ returns-in_default-clause-chosen c =
     let s = c.args.survey.now in let t = c.of-task.ensures in
     let rising : AllPairs (λ j k. j < k) c.args.gaps.now = rw c.requires.gaps (rises 64 (gap_noted s.notes)) in
     none_alone s.sought s.marks.now s.notes s.surveyed c.args.gaps.now c.requires (vec_items c.in_ok-cone.cone.nodes) c.in_ok-cone.cone.goal c.in_ok-cone.ensures.coned
-    c.of-task.result (t.cone ∙ c.as_slice.ensures.value) t.goal (t.gaps rising) (t.named ∙ c.numbers.ensures) c.others_first.result.items c.others_first.ensures.order ?
+    c.of-task.result (t.cone ∙ c.as_slice.ensures.value) t.goal (t.gaps rising) (t.named ∙ c.numbers.ensures) c.others_first-order.result.items c.others_first-order.ensures.order ?
 
 pub returns-clause-chosen : goal.returns-clause-chosen
 returns-clause-chosen c =
     let s = c.args.survey.now in let t = c.of-task.ensures in
     let rising : AllPairs (λ j k. j < k) c.args.gaps.now = rw c.requires.gaps (rises 64 (gap_noted s.notes)) in
     picked_alone s.sought s.marks.now s.notes s.surveyed c.args.gaps.now c.requires (vec_items c.in_ok-cone.cone.nodes) c.in_ok-cone.cone.goal c.in_ok-cone.ensures.coned
-    c.of-task.result (t.cone ∙ c.as_slice.ensures.value) t.goal (t.gaps rising) (t.named ∙ c.numbers.ensures) c.others_first.result.items c.others_first.ensures.order
+    c.of-task.result (t.cone ∙ c.as_slice.ensures.value) t.goal (t.gaps rising) (t.named ∙ c.numbers.ensures) c.others_first-order.result.items c.others_first-order.ensures.order
     c.in-Some.row ? c.chosen.result c.chosen.ensures ?
