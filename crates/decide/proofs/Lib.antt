@@ -1,5 +1,6 @@
 pub mod Shown
 pub mod Named
+pub mod Ordered
 pub mod Settled
 pub mod Coverage
 pub mod Reached
