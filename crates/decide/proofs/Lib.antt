@@ -2,6 +2,7 @@ pub mod Shown
 pub mod Named
 pub mod Ordered
 pub mod Listed
+pub mod Lows
 pub mod Settled
 pub mod Coverage
 pub mod Reached
