@@ -80,7 +80,7 @@ module _ (q : Sought) (ms : List Bool) (s : Notes) (y : Surveyed q ms s) (names 
     task_holds u = ap (holds u) task_goal ∙ alone_holds u
 
     rising : (a b : ℕ) → a < b → b < length (tried task) → get_or (tried task) a 0 < get_or (tried task) b 0
-    rising a b l h = let up : AllPairs (λ j k. j < k) (tried task) = rw (gaps-are, f.gaps) (rises 64 (gap_noted s)) in up a 0 b 0 l h
+    rising a b l h = let up : AllPairs (λ j k. j < k) (tried task) = rw (gaps-are, f.gaps) (rises 64 (gap_noted s)) in up a b 0 l h
 
     pub picked_alone : (r : Row) → length r.numbers ≡ 6 → (w : chosen.Chosen) → ((k : ℕ) → chosen_of w k ≡ number_of (tried task) (take task.named task.pool.items) r.numbers k) →
         PickedFirst task order (Some r) → Chosen (known_of q) (chosen_of w)

@@ -77,7 +77,8 @@ fn risen(numbers: &[u64]) -> ArrayVec<u64, 14>
 
 // What a row gives each gap, where its fresh numbers stand nowhere.
 fn chosen(task: &Task, row: &Row) -> Chosen
-    ensures { (k : ℕ) → chosen_of result k ≡ number_of (tried task.now) (take task.now.named task.now.pool.items) row.now.numbers k }
+    ensures six { length row.now.numbers ≡ 6 }
+    ensures each { (k : ℕ) → chosen_of result k ≡ number_of (tried task.now) (take task.now.named task.now.pool.items) row.now.numbers k }
 {
     let mut choices = [Choice::Nowhere(0); 64];
     for gap in 0..64 {

@@ -28,8 +28,8 @@ loop-gap-preserved c =
       ],
     )
 
-pub returns : goal.returns
-returns c k = elim (cases_lt k 64) [
+pub returns-clause-each : goal.returns-clause-each
+returns-clause-each c k = elim (cases_lt k 64) [
   | inl l ↦ c.loop-gap.invariant.1 k (omega (arith, c.loop-gap-test.false))
   | inr l ↦
       rw (no_place (tried c.args.task.now) c.args.task.now.gaps.low k l) (ap value_of (get_or_past c.loop-gap.choices k (Nowhere k) (omega (arith, c.loop-gap.invariant.0))))
