@@ -14,7 +14,7 @@ use Rattle.query.specs.Ask.{table, ask}
 use Rattle.decide.specs.Choice.{Chosen}
 use Rattle.decide.specs.Deciding.{deciding, cells_in_lines}
 use Rattle.decide.specs.Standing.{nine_told}
-use Rattle.decide.specs.SureRows.{InOrder, Candidates, first_nine, AlwaysThere, SureRows, RowsTold}
+use Rattle.decide.specs.SureRows.{InOrder, Candidates, first_nine, AlwaysThere, KeptSure, SureRows, RowsTold}
 use Rattle.decide.proofs.Choice.{one_chosen}
 use Rattle.decide.proofs.Named.{sure_by_name}
 use Rattle.decide.proofs.Ordered.{same_rows, stands_none, push_cases, push_left, push_here, order_push, taken_before}
@@ -28,11 +28,6 @@ one_candidates out v w same cs ds a b =
 
 pub one_sure : (what : Cond) (out : List Line) (rs ss : List Row) → SureRows what out rs → SureRows what out ss → rs ≡ ss
 one_sure what out rs ss a b = same_rows rs ss a.in_order b.in_order (λ r. ((λ h. (b.each r).1 ((a.each r).0 h)), λ h. (a.each r).1 ((b.each r).0 h)))
-
--- rs are those of the first i candidates that are always there
-pub record KeptSure (what : Cond) (out : List Line) (cs : List Row) (i : ℕ) (rs : List Row) : Type 0 where
-  pub in_order : InOrder rs
-  pub each : (r : Row) → (stands r rs ≡ true) ↔ ((stands r (take i cs) ≡ true) × AlwaysThere what out r)
 
 pub kept_none : (what : Cond) (out : List Line) (cs : List Row) → KeptSure what out cs 0 []
 unfolding IsStrictlySortedBy

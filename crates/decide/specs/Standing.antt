@@ -4,6 +4,7 @@
 --   gaps_named, numbers_named         how many gaps and numbers these are, the numbers with those of the row
 --   nine_told what ls row             number 9: more than six gaps, or else more than eight numbers
 --   whole_lines n w xs                how many of n lines, w cells wide, lie whole in a slice
+--   NineTold what ls row r            the result r tells that, or want of memory where it is not told
 --   decide_told lists nodes .. row    what is told, the first number of the list that applies
 --   DecideTold lists .. row r         the result r tells that, or want of memory where nothing else is told
 --   Checked lists nodes .. c          what they have where nothing is told of them
@@ -40,6 +41,9 @@ abbrev pub nine_told : Cond → List Line → Row → Told
 nine_told what ls row =
     first (unless (nat_le (gaps_named what ls) 6) 9 (gaps_named what ls))
     (unless (nat_le (numbers_named what ls row) 8) 9 (64 + numbers_named what ls row))
+
+abbrev pub NineTold : {T : Type 0} → Cond → List Line → Row → Result T Refusal → Type 0
+NineTold what ls row r = let t = nine_told what ls row in MatchResult r (λ _. t ≡ None) (λ e. Some (told e) ≡ first t (Some (told NoMemory)))
 
 abbrev pub whole_lines : ℕ → ℕ → List ℕ → ℕ
 whole_lines n w xs = min n (length xs / line_size w)

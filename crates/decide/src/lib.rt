@@ -32,6 +32,7 @@ mod showing;
 mod sides;
 mod simplifying;
 mod sought;
+mod sures;
 mod surveying;
 mod task;
 mod trying;
@@ -39,6 +40,7 @@ mod words;
 
 pub use building::{Cone, begin};
 pub use rowwise::{decide_row, possible, sure};
+pub use sures::sure_rows;
 
 // How a row stands: in the answer under every filling that fits what is known, under some and not under others, or under none; and
 // where no filling fits, all rows are sure and none possible.

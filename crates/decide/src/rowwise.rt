@@ -2,14 +2,15 @@
 ghost use Rattle.std.specs.Prelude.{◌≡◌, IfOk, IfErr};
 ghost use Rattle.condition.specs.declared.Refusal.TheVariants.{NoMemory};
 ghost use Rattle.list.specs.Layout.{lines_in, known_in};
-ghost use Rattle.decide.specs.Sought.{known_of, lines_of};
-ghost use Rattle.decide.specs.Standing.{DecideTold, TellsSure, TellsPossible, Decided};
+ghost use Rattle.decide.specs.Sought.{known_of, lines_of, deciding_of};
+ghost use Rattle.decide.specs.Standing.{NineTold, DecideTold, TellsSure, TellsPossible, Decided};
 ghost use Rattle.decide.specs.Surveying.{FewNamed};
 
 use crate::Standing;
 use crate::checking::{check_answer, check_named_few};
 use crate::coning::build_cone;
 use crate::lanes::Rails;
+use crate::marked::Marks;
 use crate::sought::Sought;
 use crate::surveying::Survey;
 use crate::task::Task;
@@ -42,8 +43,15 @@ pub fn decide_row(
         lines: lines as usize,
         row,
     };
-    let mut marks = [false; MOST_NODES as usize];
-    let survey = sought.survey(&mut marks);
+    decide(heap, sought, &mut [false; MOST_NODES as usize])
+}
+
+// How a row stands that is looked for in an answer.
+pub(crate) fn decide(heap: Global, sought: Sought, marks: &mut Marks) -> Result<Standing, Refusal>
+    ensures refusal { NineTold (known_of sought.entry) (deciding_of sought.entry) sought.entry.row.now result }
+    ensures decided { IfOk result (Decided (known_of sought.entry) (lines_of sought.entry) sought.entry.row.now) }
+{
+    let survey = sought.survey(marks);
     let gaps = check_named_few(&survey)?;
     settle_row(heap, &survey, &gaps)
 }
