@@ -40,3 +40,4 @@ pub mod Alone
 pub mod NamedRows
 pub mod Sorted
 pub mod Ordering
+pub mod Nothing

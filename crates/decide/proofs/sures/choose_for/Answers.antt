@@ -1,18 +1,30 @@
-use Rattle.std.proofs.Common.{rules, ◌≡◌, ◌≤◌, All, List, map, length, IfOk, IfErr, vec_items, ℕ, ◌+◌, ◌-◌, ◌*◌, ◌<◌, ◌/◌, ◌%◌, Bool, true, false, nat_eq, nat_lt, [], ◌∷◌, ◌++◌, slice_index_or, slice_set, bit_and, bit_or, Fits, w8, w32, w64, Bor, MutBor}
-use Rattle.list.specs.Layout.{lines_in, known_in}
-use Rattle.list.specs.Lists.{Row}
-use Rattle.decide.specs.Shapes.{what_of, out_of}
-use Rattle.decide.specs.SureRows.{InOrder, SureRows, ChooseTold, KeepTold, ListTold, SureRowsTold, Wrote}
+use Rattle.std.proofs.Common.{rules, ◌≡◌, [], Some, None, sym, ◌∙◌, inl, inr}
+use Rattle.condition.specs.Refusals.{told}
+use Rattle.decide.specs.Shapes.{what_of}
+use Rattle.decide.specs.Standing.{nine_told}
+use Rattle.decide.specs.SureRows.{ChosenFor}
+use Rattle.decide.proofs.Nothing.{known_alone, nine_alone, chose}
 use Rattle.decide.proofs.sures.choose_for.Goals as goal
 
--- src/sures.rt:71:16
 pub returns-in_err-gaps : goal.returns-in_err-gaps
-returns-in_err-gaps c = ?
+returns-in_err-gaps c =
+    let n = c.seek_nothing.ensures in let e = c.in_err-gaps.ensures.refusal in
+    let h : nine_told (what_of c.args.answered) [] [] ≡ Some (told c.in_err-gaps.field-0.0) =
+    sym (nine_alone c.args.answered c.seek_nothing.result n.nodes n.answer n.row) ∙ sym (rw c.survey-survey.ensures at e) in
+    search (rules, inl)
 
--- src/sures.rt:72:5
 pub returns-in_err-choose : goal.returns-in_err-choose
-returns-in_err-choose c = ?
+returns-in_err-choose c =
+    let n = c.seek_nothing.ensures in let e = c.in_ok-gaps.ensures.refusal in
+    let h : nine_told (what_of c.args.answered) [] [] ≡ None =
+    sym (nine_alone c.args.answered c.seek_nothing.result n.nodes n.answer n.row) ∙ sym (rw c.survey-survey.ensures at e) in
+    search (rules, inl, inr)
 
--- src/sures.rt:67:1
 pub returns : goal.returns
-returns c = ?
+returns c =
+    let n = c.seek_nothing.ensures in let e = c.in_ok-gaps.ensures.refusal in
+    let h : nine_told (what_of c.args.answered) [] [] ≡ None =
+    sym (nine_alone c.args.answered c.seek_nothing.result n.nodes n.answer n.row) ∙ sym (rw c.survey-survey.ensures at e) in
+    let f : ChosenFor (what_of c.args.answered) c.in_ok-choose.field-0 =
+    rw (known_alone c.args.answered c.seek_nothing.result n.nodes n.answer n.row) at (rw c.survey-survey.ensures at c.in_ok-choose.ensures.chosen) in
+    rw c.ok_or.ensures.value (chose (what_of c.args.answered) h c.in_ok-choose.field-0 f)
