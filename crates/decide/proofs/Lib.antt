@@ -41,3 +41,4 @@ pub mod NamedRows
 pub mod Sorted
 pub mod Ordering
 pub mod Nothing
+pub mod Keeping

@@ -1,0 +1,114 @@
+-- The candidates are gone through one after the other, and those that are sure kept.
+use Rattle.std.proofs.Common.{◌≡◌, ℕ, ◌+◌, ◌<◌, ◌≤◌, true, false, ◌⊎◌, List, [], ◌∷◌, ◌++◌, length, get_or, map, take, vec_items, Vec, Some, None, Ok, Result, sym, refl, ap, ◌∙◌, inl, inr, arith, length-append, append-nil}
+use Rattle.std.specs.List.{concat}
+use Rattle.std.proofs.lemmas.Bool.{both_ways}
+use Rattle.std.proofs.lemmas.List.{get_or-map}
+use Rattle.std.proofs.lemmas.List.Folds.{concat-append}
+use Rattle.condition.specs.Cond.{Cond}
+use Rattle.condition.specs.Refusals.{Told, told, first, number}
+use Rattle.condition.specs.declared.Refusal.{Refusal}
+use Rattle.condition.specs.declared.Refusal.TheVariants.{BadLists, BadStore, NoSuchNode, BadQuestion, TooManyLines, TooCostly, StoreFull, AnswerTooShort, WrongWidth, TooManyGaps, TooManyNumbers, TooManyNumbersAt, WouldNotFit, NothingFits, RowsFull, NoMemory}
+use Rattle.evaluate.specs.Filling.{Filling, holds}
+use Rattle.list.specs.Lists.{Line, Row, all_filled}
+use Rattle.query.specs.Ask.{table, ask}
+use Rattle.decide.specs.Deciding.{deciding}
+use Rattle.decide.specs.Shapes.{what_of, out_of}
+use Rattle.decide.specs.Sought.{known_of, lines_of, deciding_of}
+use Rattle.decide.specs.Standing.{is_sure, nine_told, Decided}
+use Rattle.decide.specs.SureRows.{InOrder, first_nine, AlwaysThere, KeptSure, Joins, KeepTold}
+use Rattle.decide.specs.declared.Standing.{Standing}
+use Rattle.decide.specs.declared.answered.Answered.{Answered}
+use Rattle.decide.specs.declared.sought.Sought.{Sought}
+use Rattle.decide.specs.declared.sures.Joined.{Joined}
+use Rattle.decide.proofs.Listed.{kept_none, kept_sure, kept_other, nine_more, nine_here, nine_all}
+
+-- only want of memory has its number
+no_memory : (e : Refusal) → Some (told e) ≡ Some (told NoMemory) → e ≡ NoMemory
+no_memory (BadLists n) h = absurd (omega (arith, ap number h))
+no_memory (BadStore n) h = absurd (omega (arith, ap number h))
+no_memory (NoSuchNode n) h = absurd (omega (arith, ap number h))
+no_memory (BadQuestion n) h = absurd (omega (arith, ap number h))
+no_memory TooManyLines h = absurd (omega (arith, ap number h))
+no_memory TooCostly h = absurd (omega (arith, ap number h))
+no_memory (StoreFull n) h = absurd (omega (arith, ap number h))
+no_memory (AnswerTooShort n) h = absurd (omega (arith, ap number h))
+no_memory (WrongWidth n) h = absurd (omega (arith, ap number h))
+no_memory (TooManyGaps n) h = absurd (omega (arith, ap number h))
+no_memory (TooManyNumbers n) h = absurd (omega (arith, ap number h))
+no_memory (TooManyNumbersAt n) h = absurd (omega (arith, ap number h))
+no_memory (WouldNotFit n) h = absurd (omega (arith, ap number h))
+no_memory NothingFits h = absurd (omega (arith, ap number h))
+no_memory (RowsFull n) h = absurd (omega (arith, ap number h))
+no_memory NoMemory h = refl
+
+-- the row at hand, among the rows as lists
+pub row_here : {Z : Type 0} (rows : List (Vec ℕ Z)) (i : ℕ) (x : Vec ℕ Z) → i < length rows → x ≡ get_or rows i x → vec_items x ≡ get_or (map vec_items rows) i []
+row_here rows i x l e = ap vec_items e ∙ sym (get_or-map vec_items rows i x [] l)
+
+-- what is looked for is a row in the answer
+module _ (a : Answered) (q : Sought) (row : Row) (nodes-are : (q.nodes.now ≡ a.nodes.now) × (q.known ≡ a.known)) (answer-is : (q.answer.now ≡ a.answer.now) × (q.lines ≡ a.lines))
+    (row-is : q.row.now ≡ row) (wide : length row ≡ a.width) where
+  pub known_same : known_of q ≡ what_of a
+  known_same = rw (nodes-are.0, nodes-are.1) refl
+
+  pub lines_same : lines_of q ≡ out_of a
+  lines_same = cc (nodes-are.0, answer-is.0, answer-is.1, row-is, wide)
+
+  pub nine_same : nine_told (known_of q) (deciding_of q) q.row.now ≡ nine_told (what_of a) (deciding (out_of a) row) row
+  nine_same = rw (known_same, lines_same, row-is) refl
+
+  pub decided_same : (s : Standing) → Decided (known_of q) (lines_of q) q.row.now s → Decided (what_of a) (out_of a) row s
+  decided_same s d = rw (known_same, lines_same, row-is) at d
+
+pub record KeptTo (what : Cond) (out : List Line) (cs : List Row) (i : ℕ) (j : Joined) : Type 0 where
+  pub none : first_nine what out (take i cs) ≡ None
+  pub rows : List Row
+  pub kept : KeptSure what out cs i rows
+  pub joins : Joins rows j
+  pub few : length rows ≤ i
+
+pub none_kept : (what : Cond) (out : List Line) (cs : List Row) (j : Joined) → j.numbers.items ≡ [] → j.count ≡ 0 → KeptTo what out cs 0 j
+unfolding first_nine
+none_kept what out cs j e f = record { none = refl; rows = []; kept = kept_none what out cs; joins = record { numbers = e; many = f }; few = omega arith }
+
+-- a sure row is always there, and no other is
+pub sure_there : (what : Cond) (out : List Line) (r : Row) (s : Standing) → Decided what out r s → is_sure s ≡ true → AlwaysThere what out r
+unfolding ask all_filled
+sure_there what out r s d h = (d.sure (out ∷ []) (table 0) (λ _ _ _. refl)).0 h
+
+pub other_missing : (what : Cond) (out : List Line) (r : Row) (s : Standing) → Decided what out r s → is_sure s ≡ false → AlwaysThere what out r → ⊥
+unfolding ask all_filled
+other_missing what out r s d h a = both_ways (is_sure s) h ((d.sure (out ∷ []) (table 0) (λ _ _ _. refl)).1 a)
+
+module _ (what : Cond) (out : List Line) (cs : List Row) (o : InOrder cs) (i : ℕ) (l : i < length cs) (j : Joined) (k : KeptTo what out cs i j) where
+  pub one_kept : (r : Row) → r ≡ get_or cs i [] → nine_told what (deciding out r) r ≡ None → AlwaysThere what out r → (j₁ : Joined) → j₁.numbers.items ≡ j.numbers.items ++ r → j₁.count ≡ j.count + 1 →
+      KeptTo what out cs (i + 1) j₁
+  one_kept r e n a j₁ f g = record {
+    none = nine_more what out cs i l k.none (rw e at n);
+    rows = k.rows ++ get_or cs i [] ∷ [];
+    kept = kept_sure what out cs o i l k.rows k.kept (rw e at a);
+    joins = record {
+      numbers = f ∙ (cc (k.joins.numbers, e) ∙ (ap (λ t. concat k.rows ++ t) (sym (append-nil (get_or cs i []))) ∙ sym (concat-append k.rows (get_or cs i [] ∷ []))));
+      many = simp length-append (omega (arith, g, k.joins.many));
+    };
+    few = simp length-append (omega (arith, k.few));
+  }
+
+  pub one_left : (r : Row) → r ≡ get_or cs i [] → nine_told what (deciding out r) r ≡ None → (AlwaysThere what out r → ⊥) → KeptTo what out cs (i + 1) j
+  one_left r e n a = record {
+    none = nine_more what out cs i l k.none (rw e at n);
+    rows = k.rows;
+    kept = kept_other what out cs o i l k.rows k.kept (rw e at a);
+    joins = k.joins;
+    few = omega (arith, k.few);
+  }
+
+  pub one_told : (r : Row) → r ≡ get_or cs i [] → (e : Refusal) → Some (told e) ≡ first (nine_told what (deciding out r) r) (Some (told NoMemory)) → (e ≡ NoMemory) ⊎ (first_nine what out cs ≡ Some (told e))
+  one_told r q e = go (nine_told what (deciding out r) r) refl
+    where
+      go : (t : Told) → nine_told what (deciding out r) r ≡ t → Some (told e) ≡ first t (Some (told NoMemory)) → (e ≡ NoMemory) ⊎ (first_nine what out cs ≡ Some (told e))
+      go None n h = inl (no_memory e h)
+      go (Some t) n h = inr (nine_here what out cs i l k.none t (rw q at n) ∙ sym h)
+
+pub all_kept : (what : Cond) (out : List Line) (cs : List Row) (j : Joined) → KeptTo what out cs (length cs) j → KeepTold what out cs (Ok j)
+all_kept what out cs j k = (nine_all what out cs k.none, (k.rows, k.kept, k.joins))
