@@ -1,26 +1,30 @@
 -- The candidates are gone through one after the other, and those that are sure kept.
-use Rattle.std.proofs.Common.{◌≡◌, ℕ, ◌+◌, ◌<◌, ◌≤◌, true, false, ◌⊎◌, List, [], ◌∷◌, ◌++◌, length, get_or, map, take, vec_items, Vec, Some, None, Ok, Result, sym, refl, ap, ◌∙◌, inl, inr, arith, length-append, append-nil}
-use Rattle.std.specs.List.{concat}
+use Rattle.std.proofs.Common.{◌≡◌, ℕ, zero, suc, ◌+◌, ◌*◌, ◌/◌, ◌^◌, ◌<◌, ◌≤◌, leb, true, false, ◌⊎◌, List, [], ◌∷◌, ◌++◌, length, get_or, map, take, vec_items, Vec, Some, None, Ok, Err, Result, sym, refl, ap, ◌∙◌, inl, inr, arith, length-append, append-nil, take_all}
+use native.Mathlib.Numerals.{unary_clauses}
+use Rattle.std.specs.List.{All, concat}
 use Rattle.std.proofs.lemmas.Bool.{both_ways}
 use Rattle.std.proofs.lemmas.List.{get_or-map}
+use Rattle.std.proofs.lemmas.List.Elements.{All-contains, Contains-get_or}
 use Rattle.std.proofs.lemmas.List.Folds.{concat-append}
-use Rattle.condition.specs.Cond.{Cond}
-use Rattle.condition.specs.Refusals.{Told, told, first, number}
+use Rattle.condition.specs.Cond.{Cond, numbers, numbers_in, has}
+use Rattle.condition.specs.Refusals.{Told, told, first, unless, number}
 use Rattle.condition.specs.declared.Refusal.{Refusal}
 use Rattle.condition.specs.declared.Refusal.TheVariants.{BadLists, BadStore, NoSuchNode, BadQuestion, TooManyLines, TooCostly, StoreFull, AnswerTooShort, WrongWidth, TooManyGaps, TooManyNumbers, TooManyNumbersAt, WouldNotFit, NothingFits, RowsFull, NoMemory}
 use Rattle.evaluate.specs.Filling.{Filling, holds}
-use Rattle.list.specs.Lists.{Line, Row, all_filled}
+use Rattle.list.specs.Lists.{Line, Row, all_filled, stands}
 use Rattle.query.specs.Ask.{table, ask}
-use Rattle.decide.specs.Deciding.{deciding}
+use Rattle.decide.specs.Choice.{Chosen}
+use Rattle.decide.specs.Deciding.{deciding, cells_in_lines}
 use Rattle.decide.specs.Shapes.{what_of, out_of}
 use Rattle.decide.specs.Sought.{known_of, lines_of, deciding_of}
 use Rattle.decide.specs.Standing.{is_sure, nine_told, Decided}
-use Rattle.decide.specs.SureRows.{InOrder, first_nine, AlwaysThere, KeptSure, Joins, KeepTold}
+use Rattle.decide.specs.SureRows.{InOrder, Candidates, first_nine, AlwaysThere, KeptSure, SureRows, Joins, KeepTold, ListTold}
 use Rattle.decide.specs.declared.Standing.{Standing}
 use Rattle.decide.specs.declared.answered.Answered.{Answered}
 use Rattle.decide.specs.declared.sought.Sought.{Sought}
 use Rattle.decide.specs.declared.sures.Joined.{Joined}
-use Rattle.decide.proofs.Listed.{kept_none, kept_sure, kept_other, nine_more, nine_here, nine_all}
+use Rattle.decide.proofs.Listed.{kept_none, kept_sure, kept_other, one_sure, sure_rows, nine_more, nine_here, nine_all, rows_told}
+use Rattle.decide.proofs.Sorted.{stands_contains, contains_stands}
 
 -- only want of memory has its number
 no_memory : (e : Refusal) → Some (told e) ≡ Some (told NoMemory) → e ≡ NoMemory
@@ -112,3 +116,35 @@ module _ (what : Cond) (out : List Line) (cs : List Row) (o : InOrder cs) (i : �
 
 pub all_kept : (what : Cond) (out : List Line) (cs : List Row) (j : Joined) → KeptTo what out cs (length cs) j → KeepTold what out cs (Ok j)
 all_kept what out cs j k = (nine_all what out cs k.none, (k.rows, k.kept, k.joins))
+
+-- what is told of the candidates is told of the list
+module _ (what : Cond) (out : List Line) (w : ℕ) (v : Filling) (cs : List Row) (n : nine_told what [] [] ≡ None) (ch : Chosen what v) (a : Candidates out v cs) (wide : All (λ r. length r ≡ w) cs)
+    (low : (k : ℕ) → has (numbers what ++ numbers_in (cells_in_lines out)) k ≡ true → k < 2 ^ 64) where
+  kept_wide : (rs : List Row) → KeptSure what out cs (length cs) rs → All (λ r. length r ≡ w) rs
+  kept_wide rs k i d l =
+      let r = get_or rs i d in
+      let s : stands r (take (length cs) cs) ≡ true = ((k.each r).0 (contains_stands r rs (Contains-get_or rs i d l))).0 in
+      All-contains (λ r. length r ≡ w) cs r wide (stands_contains r cs (rw (take_all (length cs) cs (omega arith)) at s))
+
+  pub listed : (r : Result Joined Refusal) → KeepTold what out cs r → ListTold what out w r
+  listed (Ok j) k =
+      let rs = k.1.0 in let s = sure_rows what out v cs rs ch.fits a low k.1.1 in (
+        n,
+        (rs, s, kept_wide rs k.1.1, k.1.2, λ size. rows_told what out w size v ch cs a (unless (leb (length rs * w) size) 12 (size / w))
+        (λ ss t. rw (k.0, one_sure what out ss rs t s) refl)),
+      )
+  listed (Err e) (inl m) = inr (n, inl m)
+  listed (Err e) (inr t) = inr (n, inr (λ size. rows_told what out w size v ch cs a (Some (told e)) (λ ss s. rw t refl)))
+
+-- rows of one width one after the other
+pub concat_long : (rs : List Row) (w : ℕ) → All (λ r. length r ≡ w) rs → length (concat rs) ≡ length rs * w
+concat_long [] w h = omega arith
+concat_long (r ∷ rs) w h =
+    let ih : length (concat rs) ≡ length rs * w = concat_long rs w (λ i d l. h (suc i) d (omega arith)) in
+    let e : length r ≡ w = h 0 r (omega arith) in
+    simp (length-append, unary_clauses) (omega (arith, e, ih))
+
+-- where they take any room they have a width
+pub some_width : (n w : ℕ) → 0 < n * w → 0 < w
+some_width n zero h = absurd (omega arith)
+some_width n (suc w) h = omega arith

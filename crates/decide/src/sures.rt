@@ -1,5 +1,5 @@
 // The list of sure rows.
-ghost use Rattle.std.specs.Prelude.{◌≡◌, ◌≤◌, All, List, map, length, IfOk, IfErr, vec_items};
+ghost use Rattle.std.specs.Prelude.{◌≡◌, ℕ, ◌^◌, ◌<◌, All, List, map, length, IfOk, IfErr, vec_items, slice_index};
 ghost use Rattle.list.specs.Layout.{lines_in, known_in};
 ghost use Rattle.list.specs.Lists.{Row};
 ghost use Rattle.decide.specs.Shapes.{what_of, out_of};
@@ -56,6 +56,8 @@ struct Joined {
 
 // The sure rows of an answer, in order.
 fn list_sure(heap: Global, answered: Answered, marks: &mut Marks) -> Result<Joined, Refusal>
+    requires nodes { (i : ℕ) → slice_index answered.nodes.now i < 2 ^ 64 }
+    requires answer { (i : ℕ) → slice_index answered.answer.now i < 2 ^ 64 }
     ensures { ListTold (what_of answered.entry) (out_of answered.entry) answered.entry.width result }
 {
     let chosen = choose_for(heap, answered, marks)?;

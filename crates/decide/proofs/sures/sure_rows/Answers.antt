@@ -1,0 +1,31 @@
+use Rattle.std.proofs.Common.{rules, ◌≡◌, ◌+◌, ◌*◌, ◌<◌, ◌≤◌, true, false, leb, [], length, Some, None, vec_items, vec_len, sym, refl, ap, ◌∙◌, inl, inr, arith}
+use Rattle.std.proofs.lemmas.Bool.{le-leb, lt-leb}
+use Rattle.condition.specs.Refusals.{first}
+use Rattle.decide.specs.SureRows.{list_told}
+use Rattle.decide.proofs.Keeping.{concat_long, some_width}
+use Rattle.decide.proofs.sures.sure_rows.Goals as goal
+
+pub nonzero_div-result : goal.nonzero_div-result
+nonzero_div-result c =
+    let s = c.in_ok-sure.ensures in
+    let n : length c.in_ok-sure.sure.numbers.items ≡ length s.1.0 * c.args.width = ap length s.1.3.numbers ∙ concat_long s.1.0 c.args.width s.1.2 in
+    let m : vec_len c.in_ok-sure.sure.numbers ≡ length c.in_ok-sure.sure.numbers.items = search rules in
+    some_width (length s.1.0) c.args.width (omega (arith, n, m, c.len-size.ensures, c.if-size-rows.true))
+
+pub returns-then-size-rows-clause-refusal : goal.returns-then-size-rows-clause-refusal
+returns-then-size-rows-clause-refusal c =
+    let s = c.in_ok-sure.ensures in let size = length c.args.rows.now in
+    let n : length c.in_ok-sure.sure.numbers.items ≡ length s.1.0 * c.args.width = ap length s.1.3.numbers ∙ concat_long s.1.0 c.args.width s.1.2 in
+    let m : vec_len c.in_ok-sure.sure.numbers ≡ length c.in_ok-sure.sure.numbers.items = search rules in
+    let over : leb (length s.1.0 * c.args.width) size ≡ false = lt-leb (length s.1.0 * c.args.width) size (omega (arith, n, m, c.len-size.ensures, c.if-size-rows.true)) in
+    let none : list_told c.args.lists.now c.args.nodes.now c.args.answer.now c.args.lines c.args.width ≡ None = rw (sym c.in_ok-check_answer.ensures.refusal) s.0 in
+    inr (none, inr (rw over at (s.1.4 size)))
+
+pub returns-clause-refusal : goal.returns-clause-refusal
+returns-clause-refusal c =
+    let s = c.in_ok-sure.ensures in let size = length c.args.rows.now in
+    let n : length c.in_ok-sure.sure.numbers.items ≡ length s.1.0 * c.args.width = ap length s.1.3.numbers ∙ concat_long s.1.0 c.args.width s.1.2 in
+    let m : vec_len c.in_ok-sure.sure.numbers ≡ length c.in_ok-sure.sure.numbers.items = search rules in
+    let within : leb (length s.1.0 * c.args.width) size ≡ true = le-leb (length s.1.0 * c.args.width) size (omega (arith, n, m, c.len-size.ensures, c.if-size-rows.false)) in
+    let none : list_told c.args.lists.now c.args.nodes.now c.args.answer.now c.args.lines c.args.width ≡ None = rw (sym c.in_ok-check_answer.ensures.refusal) s.0 in
+    (none, rw within at (s.1.4 size))
