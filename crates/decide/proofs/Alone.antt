@@ -1,11 +1,11 @@
 -- What is known alone, without a row: the filling that is chosen for it.
-use Rattle.std.proofs.Common.{◌≡◌, ℕ, ◌+◌, ◌^◌, ◌<◌, ◌≤◌, Bool, true, false, ◌&&◌, List, length, get_or, take, Some, None, Option, sym, refl, ap, ◌∙◌, subst, arith}
+use Rattle.std.proofs.Common.{◌≡◌, ℕ, ◌+◌, ◌<◌, Bool, true, false, ◌&&◌, List, length, get_or, take, Some, None, sym, refl, ap, ◌∙◌, subst, arith}
 use mathlib.Core.Path.{fun_ext}
 use Rattle.std.specs.List.{AllPairs, range_with_len}
 use Rattle.std.specs.List.Sorted.{IsStrictlyIncreasing}
 use Rattle.std.proofs.lemmas.List.FromFn.{length-range_with_len, get_or-range_with_len}
 use Rattle.std.proofs.lemmas.List.Kept.{IsStrictlyIncreasing-filter, AllPairs-from_increasing}
-use Rattle.condition.specs.Cond.{Cond, cells_of, numbers, has, Within}
+use Rattle.condition.specs.Cond.{Cond, cells_of, Within}
 use Rattle.condition.specs.Store.{cond_at}
 use Rattle.evaluate.specs.Filling.{Filling, holds}
 use Rattle.evaluate.proofs.Holding.{holds_both}
@@ -15,11 +15,9 @@ use Rattle.decide.specs.Counting.{passing_below}
 use Rattle.decide.specs.Goals.{goal_of}
 use Rattle.decide.specs.Noting.{gap_noted, numbers_noted}
 use Rattle.decide.specs.Picking.{OthersFirst, PickedFirst}
-use Rattle.decide.specs.Reaching.{Covers}
 use Rattle.decide.specs.Search.{tried, goal}
 use Rattle.decide.specs.Shapes.{chosen_of}
 use Rattle.decide.specs.Sought.{known_of, deciding_of}
-use Rattle.decide.specs.SureRows.{ChosenFor}
 use Rattle.decide.specs.Surveying.{numbers_for, gaps_for, Surveyed, FewNamed}
 use Rattle.decide.specs.Trying.{Names}
 use Rattle.decide.specs.declared.candidates.Chosen as chosen

@@ -14,7 +14,7 @@ use Rattle.evaluate.specs.Shapes.{numbers_of}
 use Rattle.evaluate.specs.declared.Filling as filled
 use Rattle.evaluate.proofs.Holding.{own_gaps}
 use Rattle.decide.specs.Bit.{lane}
-use Rattle.decide.specs.Might.{might, Extends, Dead, put_on}
+use Rattle.decide.specs.Might.{might, Dead, put_on}
 use Rattle.decide.specs.Sides.{side}
 use Rattle.decide.specs.Rows.{place, on_of, GoesOn, filling_of, blank, row}
 use Rattle.decide.specs.Goals.{Pool}

@@ -1,6 +1,5 @@
 -- The candidates are gone through one after the other, and those that are sure kept.
 use Rattle.std.proofs.Common.{◌≡◌, ℕ, zero, suc, ◌+◌, ◌*◌, ◌/◌, ◌^◌, ◌<◌, ◌≤◌, leb, true, false, ◌⊎◌, List, [], ◌∷◌, ◌++◌, length, get_or, map, take, vec_items, Vec, Some, None, Ok, Err, Result, sym, refl, ap, ◌∙◌, inl, inr, arith, length-append, append-nil, take_all}
-use native.Mathlib.Numerals.{unary_clauses}
 use Rattle.std.specs.List.{All, concat}
 use Rattle.std.proofs.lemmas.Bool.{both_ways}
 use Rattle.std.proofs.lemmas.List.{get_or-map}
@@ -10,7 +9,7 @@ use Rattle.condition.specs.Cond.{Cond, numbers, numbers_in, has}
 use Rattle.condition.specs.Refusals.{Told, told, first, unless, number}
 use Rattle.condition.specs.declared.Refusal.{Refusal}
 use Rattle.condition.specs.declared.Refusal.TheVariants.{BadLists, BadStore, NoSuchNode, BadQuestion, TooManyLines, TooCostly, StoreFull, AnswerTooShort, WrongWidth, TooManyGaps, TooManyNumbers, TooManyNumbersAt, WouldNotFit, NothingFits, RowsFull, NoMemory}
-use Rattle.evaluate.specs.Filling.{Filling, holds}
+use Rattle.evaluate.specs.Filling.{Filling}
 use Rattle.list.specs.Lists.{Line, Row, all_filled, stands}
 use Rattle.query.specs.Ask.{table, ask}
 use Rattle.decide.specs.Choice.{Chosen}
@@ -18,7 +17,7 @@ use Rattle.decide.specs.Deciding.{deciding, cells_in_lines}
 use Rattle.decide.specs.Shapes.{what_of, out_of}
 use Rattle.decide.specs.Sought.{known_of, lines_of, deciding_of}
 use Rattle.decide.specs.Standing.{is_sure, nine_told, Decided}
-use Rattle.decide.specs.SureRows.{InOrder, Candidates, first_nine, AlwaysThere, KeptSure, SureRows, Joins, KeepTold, ListTold}
+use Rattle.decide.specs.SureRows.{InOrder, Candidates, first_nine, AlwaysThere, KeptSure, Joins, KeepTold, ListTold}
 use Rattle.decide.specs.declared.Standing.{Standing}
 use Rattle.decide.specs.declared.answered.Answered.{Answered}
 use Rattle.decide.specs.declared.sought.Sought.{Sought}
@@ -130,8 +129,14 @@ module _ (what : Cond) (out : List Line) (w : ℕ) (v : Filling) (cs : List Row)
   listed (Ok j) k =
       let rs = k.1.0 in let s = sure_rows what out v cs rs ch.fits a low k.1.1 in (
         n,
-        (rs, s, kept_wide rs k.1.1, k.1.2, λ size. rows_told what out w size v ch cs a (unless (leb (length rs * w) size) 12 (size / w))
-        (λ ss t. rw (k.0, one_sure what out ss rs t s) refl)),
+        (
+          rs,
+          s,
+          kept_wide rs k.1.1,
+          k.1.2,
+          λ size. rows_told what out w size v ch cs a (unless (leb (length rs * w) size) 12 (size / w))
+              (λ ss t. rw (k.0, one_sure what out ss rs t s) refl),
+        ),
       )
   listed (Err e) (inl m) = inr (n, inl m)
   listed (Err e) (inr t) = inr (n, inr (λ size. rows_told what out w size v ch cs a (Some (told e)) (λ ss s. rw t refl)))
@@ -142,7 +147,7 @@ concat_long [] w h = omega arith
 concat_long (r ∷ rs) w h =
     let ih : length (concat rs) ≡ length rs * w = concat_long rs w (λ i d l. h (suc i) d (omega arith)) in
     let e : length r ≡ w = h 0 r (omega arith) in
-    simp (length-append, unary_clauses) (omega (arith, e, ih))
+    simp length-append (omega (arith, e, ih))
 
 -- where they take any room they have a width
 pub some_width : (n w : ℕ) → 0 < n * w → 0 < w

@@ -1,5 +1,5 @@
 -- What is looked for where no row is: what is known alone.
-use Rattle.std.proofs.Common.{◌≡◌, ℕ, [], Some, None, Option, refl, inr}
+use Rattle.std.proofs.Common.{◌≡◌, [], Some, None, Option, refl, inr}
 use Rattle.std.specs.Option.{ok_or}
 use Rattle.condition.specs.Cond.{Cond}
 use Rattle.condition.specs.declared.Refusal.TheVariants.{NothingFits}

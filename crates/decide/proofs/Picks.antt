@@ -1,5 +1,5 @@
 -- One number more that is picked.
-use Rattle.std.proofs.Common.{◌≡◌, ℕ, ◌+◌, ◌<◌, ◌≤◌, Bool, true, false, cond as if, eqb, ltb, ◌⊎◌, List, [], ◌∷◌, length, get_or, is_some, Some, None, Option, sym, refl, ap, ◌∙◌, subst, inl, inr, arith, below_more}
+use Rattle.std.proofs.Common.{◌≡◌, ℕ, ◌+◌, ◌<◌, ◌≤◌, true, false, cond as if, eqb, ltb, ◌⊎◌, List, [], ◌∷◌, length, get_or, is_some, Some, None, Option, sym, refl, subst, inl, inr, arith, below_more}
 use Rattle.std.specs.List.{All}
 use Rattle.std.specs.Option.{option_map_or}
 use Rattle.std.proofs.lemmas.Bool.{both_ways, cases_eq, eq-eqb, ne_eqb, le-ltb}
@@ -99,6 +99,6 @@ pub one_picked : (task : Task) (order : List ℕ) (depth : ℕ) → depth < leng
 unfolding Picking
 one_picked task order depth deep r s h p = record {
   picking = simp unary_clauses (r, h.picking, p);
-  begun = opened_begun task depth deep r h.begun (get_or order p.at 0) s (record { place = p.place; opens = p.opens; goes = p.goes });
+  begun = opened_begun task depth deep r h.begun (get_or order p.at 0) s p.opened;
   alive = p.alive;
 }

@@ -21,13 +21,13 @@ pub record Trail (task : Task) (P : ℕ → ℕ → Type 0) (depth : ℕ) (s : R
   pub step : (p : ℕ) → p < depth → Step task P p (place p) (row p) (row (p + 1))
 
 module _ (task : Task) (order : List ℕ) (P : ℕ → ℕ → Type 0) (ahead : Ahead task order P) where
-  step_of : (p : ℕ) (r s : Row) → (c : Picks task order p r s) → Step task P p c.place r s
+  step_of : (p : ℕ) (r s : Row) → (c : Picks task order p r s) → Step task P p c.opened.place r s
   step_of p r s c = record {
-    low = c.opens.low;
-    goes = rw (sym c.opens.is) at c.goes;
+    low = c.opened.opens.low;
+    goes = rw (sym c.opened.opens.is) at c.opened.goes;
     earlier = λ j room l h.
         let b : (i : ℕ) × (i < c.at) × (get_or order i 0 ≡ get_or task.pool.items j 0) =
-        ahead j c.place c.at (omega arith) (omega (arith, c.opens.low)) h c.inside (sym c.opens.is) in
+        ahead j c.opened.place c.at (omega arith) (omega (arith, c.opened.opens.low)) h c.inside (sym c.opened.opens.is) in
         subst (NoneWith task p r) b.2 (c.sooner b.0 j b.1 (record { low = l; is = sym b.2 }));
   }
 
@@ -44,7 +44,7 @@ module _ (task : Task) (order : List ℕ) (P : ℕ → ℕ → Type 0) (ahead : 
       row p = if (ltb depth p) s (t.row p)
 
       place : ℕ → ℕ
-      place p = if (eqb p depth) c.place (t.place p)
+      place p = if (eqb p depth) c.opened.place (t.place p)
 
       by : (p : ℕ) → (p < depth) ⊎ (depth ≤ p) → p < suc depth → Step task P p (place p) (row p) (row (p + 1))
       by p (inl l) h = rw (le-ltb depth p (omega arith), le-ltb depth (p + 1) (omega arith), ne_eqb p depth (λ e. omega arith)) (t.step p l)

@@ -2,9 +2,9 @@
 --
 --   Coned what ls row cone goal    the cone begins with always and never; it has what is known and the condition for a row at the places
 --                                  of the goal, and these name no other gaps and numbers than what decides the row
-use Rattle.std.specs.Prelude.{◌≡◌, ℕ, ◌+◌, ◌*◌, ◌≤◌, List, length}
+use Rattle.std.specs.Prelude.{◌≡◌, ℕ, List}
 use Rattle.condition.specs.Cond.{Cond, cells_of}
-use Rattle.condition.specs.Store.{count, cond_at}
+use Rattle.condition.specs.Store.{cond_at}
 use Rattle.evaluate.specs.Filling.{Filling, holds}
 use Rattle.list.specs.Lists.{Line, Row}
 use Rattle.decide.specs.Deciding as decided

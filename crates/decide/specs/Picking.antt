@@ -14,11 +14,12 @@
 --   OthersFirst task order        the order has the fresh numbers first, the last of them first, and then the named ones as they rise
 --   Rising task order             the order has all numbers as they rise
 --   FirstMet task r               the least filling: none that meets the goal gives the gaps, one after the other, earlier numbers
-use Rattle.std.specs.Prelude.{◌≡◌, ℕ, zero, suc, ◌+◌, ◌<◌, ◌≤◌, Bool, true, false, cond as if, ◌⊎◌, List, length, Some, None, Option, ◌==◌, slice_index}
+use Rattle.std.specs.Prelude.{◌≡◌, ℕ, zero, suc, ◌+◌, ◌<◌, ◌≤◌, Bool, true, false, cond as if, ◌⊎◌, List, length, take, Some, None, Option, ◌==◌, slice_index}
 use Rattle.evaluate.specs.Filling.{Filling, put, holds}
 use Rattle.decide.specs.Might.{Extends, Dead, put_on, NoLater}
 use Rattle.decide.specs.Rows.{on_of, GoesOn, filling_of}
 use Rattle.decide.specs.Search.{tried, goal, NoneFrom}
+use Rattle.decide.specs.Trying.{LeastOther}
 use Rattle.decide.specs.declared.rows.Row.{Row}
 use Rattle.decide.specs.declared.task.Task.{Task}
 
@@ -49,9 +50,7 @@ Opened task depth r n None = (k : ℕ) → Opens task r n k → ⊥
 pub record Picks (task : Task) (order : List ℕ) (depth : ℕ) (r s : Row) : Type 0 where
   pub at : ℕ
   pub inside : at < length order
-  pub place : ℕ
-  pub opens : Opens task r (slice_index order at) place
-  pub goes : GoesOn r depth (slice_index order at) (if (place == task.named + r.used) (r.used + 1) r.used) s
+  pub opened : OpenedWith task depth r (slice_index order at) s
   pub alive : Alive task (depth + 1) s
   pub sooner : (i k : ℕ) → i < at → Opens task r (slice_index order i) k → NoneWith task depth r (slice_index order i)
 
@@ -81,3 +80,10 @@ Rising task order = Ahead task order (λ a b. slice_index task.pool.items a < sl
 
 abbrev pub FirstMet : Task → Row → Type 0
 FirstMet task r = (u : Filling) → holds u (goal task true) ≡ true → NoLater (tried task) (filling_of (tried task) r) u
+
+-- where each fresh number is the least that is none of those before it, the first filling in rising order is the least
+abbrev pub LeastFirst : Type 0
+LeastFirst =
+    (task : Task) (order : List ℕ) → Rising task order →
+    ((p : ℕ) → task.named ≤ p → p < length task.pool.items → LeastOther (take p task.pool.items) (slice_index task.pool.items p)) →
+    (r : Row) → Picking task order (length (tried task)) r → FirstMet task r

@@ -26,11 +26,7 @@ use std::alloc::Global;
 
 // The filling that fits what is known and gives a gap a number that stands nowhere wherever it can, if any filling fits; refused only
 // for want of memory.
-pub(crate) fn choose(
-    heap: Global,
-    survey: &Survey,
-    gaps: &[u64],
-) -> Result<Option<Chosen>, Refusal>
+pub(crate) fn choose(heap: Global, survey: &Survey, gaps: &[u64]) -> Result<Option<Chosen>, Refusal>
     requires { FewNamed survey.now.notes gaps.now }
     ensures refused { IfErr result (λ e. e ≡ NoMemory) }
     ensures chosen { IfOk result (ChosenFor (known_of survey.now.sought)) }

@@ -5,6 +5,7 @@ ghost use Rattle.std.specs.Prelude.{◌≡◌};
 ghost use Rattle.decide.specs.Standing.{standing, is_sure, is_possible};
 ghost use Rattle.decide.specs.Deciding.{ByCondition, DecidingEnough, SureByName, DecidedWithin64Bits};
 ghost use Rattle.decide.specs.Choice.{OneChosen};
+ghost use Rattle.decide.specs.Picking.{LeastFirst};
 ghost use Rattle.decide.specs.Might.{MightSound, MightExact, FewSteps, LeastStep, LeastAll};
 
 mod answered;
@@ -118,6 +119,12 @@ pub fn least_step()
 
 pub fn least_all()
     ensures { LeastAll }
+{}
+
+// The first filling in rising order is the least: see specs/Picking.antt.
+
+pub fn least_first()
+    ensures { LeastFirst }
 {}
 
 // The filling that decides which rows may be sure: see specs/Choice.antt.

@@ -62,7 +62,11 @@ fn open_with(task: &Task, depth: usize, row: Row, number: u64) -> Option<Row>
     if place > open {
         return None;
     }
-    let used = if place == open { row.used + 1 } else { row.used };
+    let used = if place == open {
+        row.used + 1
+    } else {
+        row.used
+    };
     Some(row.with(depth, number, used))
 }
 

@@ -1,7 +1,6 @@
-use Rattle.std.proofs.Common.{◌≡◌, ◌<◌, AllPairs, ◌∙◌, vec_items}
+use Rattle.std.proofs.Common.{◌<◌, AllPairs, ◌∙◌, vec_items}
 use Rattle.decide.proofs.Alone.{rises, alone_named, picked_alone, none_alone}
 use Rattle.decide.specs.Noting.{gap_noted}
-use Rattle.decide.specs.Search.{tried}
 use Rattle.decide.proofs.choosing.choose.Goals as goal
 
 pub of-task-requires-clause-named : goal.of-task-requires-clause-named

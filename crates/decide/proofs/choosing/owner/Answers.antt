@@ -1,6 +1,4 @@
-use Rattle.std.proofs.Common.{◌∙◌}
 use Rattle.decide.specs.Rows.{place}
-use Rattle.decide.specs.Choice.{owner}
 use Rattle.decide.proofs.Choice.{owner_low}
 use Rattle.decide.proofs.choosing.owner.Goals as goal
 

@@ -1,4 +1,4 @@
-use Rattle.std.proofs.Common.{◌≡◌, true, false, take, get_or, sym, refl, ap, ◌∙◌, List, ℕ, arith}
+use Rattle.std.proofs.Common.{◌≡◌, true, false, take, get_or, sym, refl, ◌∙◌}
 use Rattle.condition.specs.Cond.{has}
 use Rattle.decide.proofs.Listing.{has_any}
 use Rattle.decide.proofs.choosing.settled_choice.Goals as goal

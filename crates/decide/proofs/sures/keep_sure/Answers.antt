@@ -1,4 +1,4 @@
-use Rattle.std.proofs.Common.{rules, ◌≡◌, ◌+◌, ◌⊎◌, [], ◌++◌, map, length, get_or, Some, None, vec_items, sym, refl, ap, ◌∙◌, inl, inr, arith}
+use Rattle.std.proofs.Common.{rules, ◌≡◌, ◌⊎◌, [], ◌++◌, map, length, Some, None, vec_items, sym, refl, ap, ◌∙◌}
 use Rattle.std.proofs.lemmas.List.{length-map}
 use Rattle.condition.specs.Refusals.{told}
 use Rattle.condition.specs.declared.Refusal.TheVariants.{NoMemory}
@@ -6,7 +6,7 @@ use Rattle.decide.specs.Deciding.{deciding}
 use Rattle.decide.specs.Shapes.{what_of, out_of}
 use Rattle.decide.specs.Standing.{nine_told, Decided}
 use Rattle.decide.specs.SureRows.{first_nine}
-use Rattle.decide.proofs.Keeping.{row_here, nine_same, decided_same, none_kept, sure_there, other_missing, one_kept, one_left, one_told, all_kept}
+use Rattle.decide.proofs.Keeping.{row_here, nine_same, decided_same, none_kept, sure_there, other_missing, one_kept, one_left, one_told}
 use Rattle.decide.proofs.sures.keep_sure.Goals as goal
 use Rattle.decide.proofs.sures.keep_sure.Goals.{then-is_sure+in_ok-extend_from_slice, else-is_sure}
 

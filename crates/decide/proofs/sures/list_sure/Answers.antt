@@ -1,4 +1,4 @@
-use Rattle.std.proofs.Common.{◌∙◌, map, vec_items}
+use Rattle.std.proofs.Common.{map, vec_items}
 use Rattle.decide.specs.Shapes.{chosen_of, what_of, out_of}
 use Rattle.decide.proofs.Keeping.{listed}
 use Rattle.decide.proofs.Lows.{low_numbers}

@@ -1,6 +1,5 @@
-use Rattle.std.proofs.Common.{rules, ◌≡◌, ◌+◌, ◌*◌, ◌<◌, ◌≤◌, true, false, leb, [], length, Some, None, vec_items, vec_len, sym, refl, ap, ◌∙◌, inl, inr, arith}
+use Rattle.std.proofs.Common.{rules, ◌≡◌, ◌*◌, true, false, leb, length, None, vec_len, sym, ap, ◌∙◌, inr, arith}
 use Rattle.std.proofs.lemmas.Bool.{le-leb, lt-leb}
-use Rattle.condition.specs.Refusals.{first}
 use Rattle.decide.specs.SureRows.{list_told}
 use Rattle.decide.proofs.Keeping.{concat_long, some_width}
 use Rattle.decide.proofs.sures.sure_rows.Goals as goal
