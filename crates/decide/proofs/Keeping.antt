@@ -17,7 +17,8 @@ use Rattle.decide.specs.Deciding.{deciding, cells_in_lines}
 use Rattle.decide.specs.Shapes.{what_of, out_of}
 use Rattle.decide.specs.Sought.{known_of, lines_of, deciding_of}
 use Rattle.decide.specs.Standing.{is_sure, nine_told, Decided}
-use Rattle.decide.specs.SureRows.{InOrder, Candidates, first_nine, AlwaysThere, KeptSure, Joins, KeepTold, ListTold}
+use Rattle.decide.specs.SureRows.{InOrder, Candidates, first_nine, AlwaysThere}
+use Rattle.decide.specs.SureSteps.{KeptSure, Joins, KeepTold, ListTold}
 use Rattle.decide.specs.declared.Standing.{Standing}
 use Rattle.decide.specs.declared.answered.Answered.{Answered}
 use Rattle.decide.specs.declared.sought.Sought.{Sought}

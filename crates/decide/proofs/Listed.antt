@@ -14,7 +14,8 @@ use Rattle.query.specs.Ask.{table, ask}
 use Rattle.decide.specs.Choice.{Chosen}
 use Rattle.decide.specs.Deciding.{deciding, cells_in_lines}
 use Rattle.decide.specs.Standing.{nine_told}
-use Rattle.decide.specs.SureRows.{InOrder, Candidates, first_nine, AlwaysThere, KeptSure, SureRows, RowsTold}
+use Rattle.decide.specs.SureRows.{InOrder, Candidates, first_nine, AlwaysThere, SureRows, RowsTold}
+use Rattle.decide.specs.SureSteps.{KeptSure}
 use Rattle.decide.proofs.Choice.{one_chosen}
 use Rattle.decide.proofs.Named.{sure_by_name}
 use Rattle.decide.proofs.Ordered.{same_rows, stands_none, push_cases, push_left, push_here, order_push, taken_before}

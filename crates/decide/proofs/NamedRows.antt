@@ -15,7 +15,7 @@ use Rattle.list.proofs.Lined.{line_turn}
 use Rattle.list.proofs.Filling.{fill_app, fill_at}
 use Rattle.list.proofs.Reading.{length_cells, line_cell_at, line_named, filled_kept, filled_left}
 use Rattle.evaluate.specs.Values.{WorkedOut}
-use Rattle.decide.specs.SureRows.{is_named, named_rows}
+use Rattle.decide.specs.SureSteps.{is_named, named_rows}
 use Rattle.decide.specs.declared.answered.Answered.{Answered}
 use Rattle.decide.proofs.Agreeing.{cells_more, cells_all}
 

@@ -8,7 +8,7 @@ use Rattle.decide.specs.Deciding.{deciding}
 use Rattle.decide.specs.Shapes.{what_of}
 use Rattle.decide.specs.Sought.{known_of, deciding_of}
 use Rattle.decide.specs.Standing.{nine_told}
-use Rattle.decide.specs.SureRows.{ChosenFor, ChooseTold}
+use Rattle.decide.specs.SureSteps.{ChosenFor, ChooseTold}
 use Rattle.decide.specs.declared.answered.Answered.{Answered}
 use Rattle.decide.specs.declared.candidates.Chosen.{Chosen}
 use Rattle.decide.specs.declared.sought.Sought.{Sought}

@@ -15,7 +15,8 @@ use Rattle.evaluate.specs.Filling.{Filling, holds}
 use Rattle.list.specs.Layout.{line_size, cells_in, lines_in}
 use Rattle.list.specs.Lists.{Line, Row, fill_cells, filled, same_row, stands}
 use Rattle.list.proofs.Filling.{same_row_is}
-use Rattle.decide.specs.SureRows.{Candidates, is_named, named_rows}
+use Rattle.decide.specs.SureRows.{Candidates}
+use Rattle.decide.specs.SureSteps.{is_named, named_rows}
 use Rattle.decide.proofs.NamedRows.{length_row, named_true, named_all}
 
 -- a list by what it is mapped to

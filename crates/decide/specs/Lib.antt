@@ -25,3 +25,4 @@ pub mod Choice
 pub mod Picking
 pub mod Shapes
 pub mod SureRows
+pub mod SureSteps

@@ -1,35 +1,29 @@
 -- The list of sure rows, and what is told of it.
 --
 --   InOrder rs               the rows rs are each there once, in order cell by cell
---   ChosenFor c o            o is the chosen filling for c; or none, and then no filling meets c
---   is_named r               whether the numbers of a row are all below 2^64, so none of them stands nowhere
---   named_rows rs            those of the rows rs, as often and in the same order
 --   Candidates out v rs      rs are the rows of the list out under v whose numbers are all below 2^64, in order; so a number that stands
 --                            nowhere keeps a row out
 --   first_nine what out rs   number 9, for the first of the rows rs for which deciding it tells that
 --   AlwaysThere what out r   the row r is one of out under every filling that fits
---   KeptSure what out cs i rs   rs are those of the first i of the rows cs that are always there
 --   SureRows what out rs     rs are all rows that are always there, in order; so the sure ones for every question that out answers
 --   list_told .. n w         what is told before any row is looked at: number 9 for what is known alone behind 1, 2, 3 and 7
 --   RowsTold what out w size t   t is told of the list of sure rows, w cells wide, for a slice of such a size: 11, 9 or 12, or nothing
 --   SureRowsTold .. r        the result r tells these, or want of memory behind list_told
---   ChooseTold what r        the result r is the chosen filling, or tells why there is none
---   Joins rs j               j has the rows rs, one after the other
---   KeepTold what out cs r   the result r has the sure ones of the candidates cs, or tells why not
---   ListTold what out w r    it has all sure rows, or tells why not; RowsTold of any slice
 --   Wrote rs n xs ys         ys is xs with the n rows rs at the front, one after the other
 use Rattle.std.specs.Prelude.{◌≡◌, ℕ, ◌+◌, ◌*◌, ◌/◌, ◌^◌, ◌<◌, true, false, ◌⊎◌, ◌↔◌, All, List, [], ◌∷◌, ◌++◌, length, drop, Some, None, Option, Result, MatchResult, nat_le}
 use Rattle.std.specs.List.{concat}
 use Rattle.std.specs.Prelude.{◌≡◌, ℕ, ◌*◌, ◌/◌, ◌^◌, ◌<◌, Bool, true, false, ◌⊎◌, ◌↔◌, All, List, [], ◌∷◌, ◌++◌, length, drop, filter, Some, None, Result, MatchResult, nat_lt, nat_le}
 use Rattle.std.specs.Prelude.{◌≡◌, ℕ, ◌*◌, ◌/◌, ◌^◌, ◌<◌, Bool, true, false, ◌⊎◌, ◌↔◌, All, List, [], ◌∷◌, ◌++◌, length, take, drop, filter, Some, None, Option, Result, MatchResult, nat_lt, nat_le}
 use Rattle.std.specs.List.{concat, list_all}
+use Rattle.std.specs.Prelude.{◌≡◌, ℕ, ◌*◌, ◌/◌, ◌^◌, ◌<◌, true, false, ◌⊎◌, ◌↔◌, All, List, [], ◌∷◌, ◌++◌, length, drop, Some, None, Result, MatchResult, nat_le}
+use Rattle.std.specs.List.{concat}
 use Rattle.std.specs.List.Sorted.{IsStrictlySortedBy}
 use Rattle.std.specs.Ordering.{nat_cmp}
 use Rattle.std.specs.Cmp.Lexicographic.{slice_cmp}
 use Rattle.condition.specs.Cond.{Cond}
 use Rattle.condition.specs.Refusals.{Told, told, first, unless}
 use Rattle.condition.specs.declared.Refusal.{Refusal}
-use Rattle.condition.specs.declared.Refusal.TheVariants.{NothingFits, NoMemory}
+use Rattle.condition.specs.declared.Refusal.TheVariants.{NoMemory}
 use Rattle.evaluate.specs.Filling.{Filling, holds}
 use Rattle.list.specs.Layout.{known_in, lines_in}
 use Rattle.list.specs.Lists.{Line, Row, filled, stands}
@@ -37,23 +31,10 @@ use Rattle.query.specs.Ask.{Query}
 use Rattle.answer.specs.Promise.{Answers, Sure}
 use Rattle.decide.specs.Choice.{Chosen}
 use Rattle.decide.specs.Deciding.{deciding}
-use Rattle.decide.specs.Shapes.{chosen_of}
 use Rattle.decide.specs.Standing.{nine_told, answer_told}
-use Rattle.decide.specs.declared.candidates.Chosen as chosen
-use Rattle.decide.specs.declared.sures.Joined.{Joined}
 
 abbrev pub InOrder : List Row → Type 0
 InOrder rs = IsStrictlySortedBy (slice_cmp nat_cmp) rs
-
-abbrev pub ChosenFor : Cond → Option chosen.Chosen → Type 0
-ChosenFor c (Some f) = Chosen c (chosen_of f)
-ChosenFor c None = (v : Filling) → holds v c ≡ false
-
-abbrev pub is_named : Row → Bool
-is_named r = list_all (λ n. nat_lt n (2 ^ 64)) r
-
-unfoldable pub named_rows : List Row → List Row
-named_rows rs = filter is_named rs
 
 pub record Candidates (out : List Line) (v : Filling) (rs : List Row) : Type 0 where
   pub in_order : InOrder rs
@@ -65,10 +46,6 @@ first_nine what out (r ∷ rs) = first (nine_told what (deciding out r) r) (firs
 
 abbrev pub AlwaysThere : Cond → List Line → Row → Type 0
 AlwaysThere what out r = (v : Filling) → holds v what ≡ true → stands r (filled v out) ≡ true
-
-pub record KeptSure (what : Cond) (out : List Line) (cs : List Row) (i : ℕ) (rs : List Row) : Type 0 where
-  pub in_order : InOrder rs
-  pub each : (r : Row) → (stands r rs ≡ true) ↔ ((stands r (take i cs) ≡ true) × AlwaysThere what out r)
 
 pub record SureRows (what : Cond) (out : List Line) (rs : List Row) : Type 0 where
   pub in_order : InOrder rs
@@ -89,33 +66,6 @@ abbrev pub SureRowsTold : {T : Type 0} → (lists nodes answer : List ℕ) → �
 SureRowsTold lists nodes answer n w size r =
     let t = list_told lists nodes answer n w in let Told-of = RowsTold (known_in nodes lists) (lines_in nodes n w answer) w size in
     MatchResult r (λ _. (t ≡ None) × Told-of None) (λ e. (t ≡ Some (told e)) ⊎ ((t ≡ None) × ((e ≡ NoMemory) ⊎ Told-of (Some (told e)))))
-
--- the chosen filling, if number 9 is not told for what is known alone; else that, or that no filling fits it, or want of memory
-abbrev pub ChooseTold : Cond → Result chosen.Chosen Refusal → Type 0
-ChooseTold what r =
-    let t = nine_told what [] [] in
-    MatchResult r (λ f. (t ≡ None) × Chosen what (chosen_of f))
-    (λ e. (t ≡ Some (told e)) ⊎ ((t ≡ None) × ((e ≡ NoMemory) ⊎ ((e ≡ NothingFits) × ((v : Filling) → holds v what ≡ false)))))
-
--- rows one after the other in one list of numbers
-pub record Joins (rs : List Row) (j : Joined) : Type 0 where
-  pub numbers : j.numbers.items ≡ concat rs
-  pub many : j.count ≡ length rs
-
--- of the candidates cs those that are always there, if number 9 is told for none of them; else that, or want of memory
-abbrev pub KeepTold : Cond → List Line → List Row → Result Joined Refusal → Type 0
-KeepTold what out cs r =
-    MatchResult r (λ j. (first_nine what out cs ≡ None) × ((rs : List Row) × KeptSure what out cs (length cs) rs × Joins rs j))
-    (λ e. (e ≡ NoMemory) ⊎ (first_nine what out cs ≡ Some (told e)))
-
--- all of them, whatever the slice is that they are for; or what is told of that
-abbrev pub ListTold : Cond → List Line → ℕ → Result Joined Refusal → Type 0
-ListTold what out w r =
-    let t = nine_told what [] [] in
-    MatchResult r
-    (λ j. (t ≡ None) × ((rs : List Row) × SureRows what out rs × All (λ r. length r ≡ w) rs × Joins rs j
-    × ((size : ℕ) → RowsTold what out w size (unless (nat_le (length rs * w) size) 12 (size / w)))))
-    (λ e. (t ≡ Some (told e)) ⊎ ((t ≡ None) × ((e ≡ NoMemory) ⊎ ((size : ℕ) → RowsTold what out w size (Some (told e))))))
 
 pub record Wrote (rs : List Row) (n : ℕ) (xs ys : List ℕ) : Type 0 where
   pub many : length rs ≡ n

@@ -11,7 +11,8 @@ ghost use Rattle.list.specs.Layout.{cells_in};
 ghost use Rattle.list.specs.Lists.{fill_cells, filled};
 ghost use Rattle.list.specs.Shapes.{rows_of};
 ghost use Rattle.decide.specs.Shapes.{value_of, chosen_of, out_of};
-ghost use Rattle.decide.specs.SureRows.{Candidates, is_named, named_rows};
+ghost use Rattle.decide.specs.SureRows.{Candidates};
+ghost use Rattle.decide.specs.SureSteps.{is_named, named_rows};
 
 use crate::answered::Answered;
 use condition::{Cell, Refusal};

@@ -7,7 +7,7 @@ ghost use Rattle.decide.specs.Choice.{owner, stand_in, number_of};
 ghost use Rattle.decide.specs.Picking.{OthersFirst};
 ghost use Rattle.decide.specs.Search.{tried};
 ghost use Rattle.decide.specs.Shapes.{value_of, chosen_of};
-ghost use Rattle.decide.specs.SureRows.{ChosenFor};
+ghost use Rattle.decide.specs.SureSteps.{ChosenFor};
 ghost use Rattle.decide.specs.Sought.{known_of};
 ghost use Rattle.decide.specs.Surveying.{FewNamed};
 

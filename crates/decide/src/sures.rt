@@ -3,7 +3,8 @@ ghost use Rattle.std.specs.Prelude.{◌≡◌, ℕ, ◌^◌, ◌<◌, All, List,
 ghost use Rattle.list.specs.Layout.{lines_in, known_in};
 ghost use Rattle.list.specs.Lists.{Row};
 ghost use Rattle.decide.specs.Shapes.{what_of, out_of};
-ghost use Rattle.decide.specs.SureRows.{InOrder, SureRows, ChooseTold, KeepTold, ListTold, SureRowsTold, Wrote};
+ghost use Rattle.decide.specs.SureRows.{InOrder, SureRows, SureRowsTold, Wrote};
+ghost use Rattle.decide.specs.SureSteps.{ChooseTold, KeepTold, ListTold};
 
 use crate::answered::Answered;
 use crate::candidates::{Chosen, candidates};

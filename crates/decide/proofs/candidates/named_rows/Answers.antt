@@ -6,7 +6,7 @@ use Rattle.list.specs.Shapes.{rows_of}
 use Rattle.list.proofs.Lined.{line_end}
 use Rattle.list.proofs.Reading.{filled_all}
 use Rattle.decide.specs.Shapes.{chosen_of}
-use Rattle.decide.specs.SureRows.{named_rows}
+use Rattle.decide.specs.SureSteps.{named_rows}
 use Rattle.decide.proofs.NamedRows.{named_none, met_next, named_kept, named_lost, named_left}
 use Rattle.decide.proofs.candidates.named_rows.Goals as goal
 

@@ -2,7 +2,7 @@ use Rattle.std.proofs.Common.{◌≡◌, length, take}
 use Rattle.list.specs.Lists.{filled}
 use Rattle.list.specs.Shapes.{rows_of}
 use Rattle.decide.specs.Shapes.{chosen_of, out_of}
-use Rattle.decide.specs.SureRows.{named_rows}
+use Rattle.decide.specs.SureSteps.{named_rows}
 use Rattle.decide.proofs.candidates.named_rows.Given as goal
 
 abbrev pub invariant-loop-line : goal.invariant-loop-line

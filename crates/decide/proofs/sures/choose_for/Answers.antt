@@ -2,7 +2,7 @@ use Rattle.std.proofs.Common.{rules, ◌≡◌, [], Some, None, sym, ◌∙◌, 
 use Rattle.condition.specs.Refusals.{told}
 use Rattle.decide.specs.Shapes.{what_of}
 use Rattle.decide.specs.Standing.{nine_told}
-use Rattle.decide.specs.SureRows.{ChosenFor}
+use Rattle.decide.specs.SureSteps.{ChosenFor}
 use Rattle.decide.proofs.Nothing.{known_alone, nine_alone, chose}
 use Rattle.decide.proofs.sures.choose_for.Goals as goal
 
