@@ -3,7 +3,7 @@ use crate::answers::Answer;
 use condition::{Condition, cell_at};
 use decide::Standing;
 use std::alloc::Global;
-use std::io;
+use std::{fmt, io};
 
 // Its lines, and then of its rows what `tell_rows` tells.
 pub fn tell_all(rt: &impl Print, heap: Global, answer: &Answer, asked: &[u64]) -> io::Result<()> {
@@ -60,24 +60,52 @@ fn tell_row(rt: &impl Print, standing: Standing, row: &[u64]) -> io::Result<()> 
     println!(rt)
 }
 
-// Each line on a line of its own.
 fn tell_lines(rt: &impl Print, answer: &Answer) -> io::Result<()> {
     let size = answer.width.saturating_mul(2).saturating_add(1);
-    for line in answer.numbers.chunks_exact(size) {
-        tell_line(rt, &answer.nodes, line)?;
+    for numbers in answer.numbers.chunks_exact(size) {
+        let nodes = &answer.nodes;
+        rt.println(ShownLine { nodes, numbers })?;
     }
     Ok(())
 }
 
-// The cells of a line, and its condition in words.
-fn tell_line(rt: &impl Print, nodes: &[u64], line: &[u64]) -> io::Result<()> {
-    let Some((node, cells)) = line.split_first() else {
-        return Ok(());
-    };
-    for cell in cells.chunks_exact(2) {
-        let cell = cell_at(cell, 0);
-        print!(rt; "{cell} ")?;
+// A line of an answer, and the store that its condition stands in.
+#[derive(Clone, Copy)]
+struct ShownLine<'a> {
+    nodes: &'a [u64],
+    numbers: &'a [u64],
+}
+
+// Its cells, and its condition in words: `2 g2 if g0 = 11`.
+impl fmt::Display for ShownLine<'_> {
+    fn fmt<W: fmt::Write>(&self, f: &mut fmt::Formatter<W>) -> fmt::Result {
+        let Some((node, cells)) = self.numbers.split_first() else {
+            return Ok(());
+        };
+        for cell in cells.chunks_exact(2) {
+            let cell = cell_at(cell, 0);
+            write!(f, "{cell} ")?;
+        }
+        let condition = Condition {
+            nodes: self.nodes,
+            node: *node,
+        };
+        write!(f, "if {condition}")
     }
-    let condition = Condition { nodes, node: *node };
-    println!(rt; "if {condition}")
+}
+
+#[cfg(test)]
+mod tests {
+    use super::*;
+
+    // What `--answer` shows; the stored output is of a run without it.
+    #[test]
+    fn shows_a_line(rt: HostRuntime) {
+        let line = ShownLine {
+            nodes: &[2, 2, 1, 0, 0, 10, 3, 0, 0, 0, 0],
+            numbers: &[1, 0, 2, 1, 63],
+        };
+        let text = format!(in rt.alloc(); "{line}").expect(&rt, "memory");
+        assert_eq!(rt; text.as_str(), "2 g63 if not g0 = 10");
+    }
 }
