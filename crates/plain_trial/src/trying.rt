@@ -107,18 +107,18 @@ impl Choice {
         Ok(Choice { gap, numbers })
     }
 
-    // Numbers that stand nowhere before those that what is known names, in rising order. The gap takes its own of the former first,
-    // and no other where what is known does not name it.
+    // Numbers that stand nowhere before those that what is known names: the gap's own, those of the gaps before it, the last first, and
+    // then the named ones as they rise. A gap that what is known does not name takes its own alone.
     fn in_order(
         heap: Global,
         gap: Gap,
         own: u64,
-        others: &[u64],
+        earlier: &[u64],
         known: &Names,
     ) -> Result<Choice, AllocError> {
         let mut numbers = vec![in heap; own]?;
         if known.gaps.contains(&gap) {
-            numbers.extend(others.iter().copied().filter(|other| *other != own))?;
+            numbers.extend(earlier.iter().rev().copied())?;
             numbers.extend(known.numbers.iter().copied())?;
         }
         Ok(Choice { gap, numbers })
@@ -149,7 +149,11 @@ impl Choices {
         let each = gaps
             .iter()
             .zip(others)
-            .map(|(gap, own)| Choice::in_order(heap, *gap, *own, others, known))
+            .enumerate()
+            .map(|(i, (gap, own))| {
+                let earlier = &others[..i.min(others.len())];
+                Choice::in_order(heap, *gap, *own, earlier, known)
+            })
             .try_collect(heap)?;
         Ok(Choices { each })
     }
