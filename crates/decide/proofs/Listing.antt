@@ -2,12 +2,12 @@
 use Rattle.std.proofs.Common.{◌≡◌, ◌≢◌, ℕ, suc, ◌+◌, ◌<◌, ◌≤◌, Bool, true, false, cond as if, ◌||◌, eqb, ltb, ◌⊎◌, List, [], ◌∷◌, ◌++◌, length, get_or, take, Some, None, Option, sym, refl, ap, ◌∙◌, subst, inl, inr, arith, below_more, length-append}
 use Rattle.std.specs.List.{All, AllPairs, position_or_len, list_any}
 use Rattle.std.specs.Option.{option_map_or}
-use Rattle.std.proofs.lemmas.Bool.{both_ways, cases_eq, eq-eqb, ne_eqb, eqb-true, lt-ltb, or_cases}
+use Rattle.std.proofs.lemmas.Bool.{both_ways, cases_eq, cases_lt, eq-eqb, ne_eqb, eqb-true, lt-ltb, or_cases}
 use Rattle.std.proofs.lemmas.Bool.Decides.{nat_tests}
 use Rattle.std.proofs.lemmas.List.{get_or_default, get_or-take, length-take-le, take_more}
 use Rattle.std.proofs.lemmas.List.Elements.{All-push}
 use Rattle.std.proofs.lemmas.List.Quantifiers.{position-Some, all_pairs_push}
-use Rattle.std.proofs.lemmas.List.Sums.{position_or_len_is}
+use Rattle.std.proofs.lemmas.List.Sums.{position_or_len_is, fails_before_first}
 use Rattle.condition.specs.Cond.{has, Within}
 use Rattle.condition.proofs.Lists.{has_none, has_cons, has_head, has_left, has_right, has_at}
 use Rattle.evaluate.specs.Filling.{Filling, put}
@@ -45,6 +45,21 @@ place_at gs d p h =
     let e : position_or_len (λ g. eqb g (get_or gs p 0)) gs ≡ p =
     position_or_len_is (λ g. eqb g (get_or gs p 0)) gs p 0 (omega arith) (λ k l. ne_eqb (get_or gs k 0) (get_or gs p 0) (d k p 0 l h)) (λ _. eq-eqb (get_or gs p 0) (get_or gs p 0) refl) in
     rw e (rw (lt-ltb p (length gs) h) refl)
+
+-- what stands at q stands first at q or before, and has its place there
+module _ (gs : List ℕ) (k q : ℕ) (e : get_or gs q 0 ≡ k) where
+  abbrev at : ℕ
+  at = position_or_len (λ g. eqb g k) gs
+
+  pub at_low : at ≤ q
+  at_low = elim (cases_lt q at) [
+    | inl l ↦ absurd (both_ways (eqb (get_or gs q 0) k) (fails_before_first (λ g. eqb g k) gs q 0 l) (eq-eqb (get_or gs q 0) k e))
+    | inr l ↦ l
+  ]
+
+  pub place_low : q < length gs → (p : ℕ) × (p ≤ q) × (place gs k ≡ Some p)
+  unfolding place
+  place_low h = (at, at_low, rw (lt-ltb at (length gs) (omega (arith, at_low))) refl)
 
 -- each of them has a place
 pub has_place : (gs : List ℕ) → Distinct gs → (k : ℕ) → has gs k ≡ true → (p : ℕ) × (p < length gs) × (place gs k ≡ Some p)

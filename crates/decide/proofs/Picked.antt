@@ -6,7 +6,6 @@ use Rattle.std.proofs.lemmas.Bool.{both_ways, cases_lt, eqb-true, eq-eqb, ltb-tr
 use Rattle.std.proofs.lemmas.List.{get_or-take, get_or_past, length-take-le, drop_more, drop_all}
 use Rattle.std.proofs.lemmas.List.Sums.{fails_before_first, passes_at_first}
 use Rattle.condition.specs.Cond.{has, Within}
-use Rattle.condition.proofs.Lists.{eqb_self}
 use Rattle.evaluate.specs.Filling.{Filling, put, holds}
 use Rattle.decide.specs.Might.{Extends, Dead, put_on, NoLater}
 use Rattle.decide.specs.Rows.{place, on_of, number_at, filling_of}
@@ -17,7 +16,7 @@ use Rattle.decide.specs.Trying.{LeastOther}
 use Rattle.decide.specs.declared.rows.Row.{Row}
 use Rattle.decide.specs.declared.task.Task.{Task}
 use Rattle.decide.proofs.Steps.{goes_on, least_step, least_all}
-use Rattle.decide.proofs.Listing.{found_at, place_back, place_at, on_more, filling_more}
+use Rattle.decide.proofs.Listing.{found_at, at_low, place_back, place_at, on_more, filling_more}
 use Rattle.decide.proofs.Gathering.{front_has, front_more}
 use Rattle.decide.proofs.Trails.{Trail, trail, used_few, opened, opens_more, used_for, numbers_at}
 
@@ -34,10 +33,7 @@ module _ (xs : List ℕ) (p : ℕ) where
       by (inr l) = inr (l, rw (le-ltb first (length xs) l) refl)
 
   first_low : first ≤ p
-  first_low = elim (cases_lt p first) [
-    | inl l ↦ absurd (both_ways (eqb (get_or xs p 0) (get_or xs p 0)) (fails_before_first (λ n. eqb n (get_or xs p 0)) xs p 0 l) (eqb_self (get_or xs p 0)))
-    | inr l ↦ l
-  ]
+  first_low = at_low xs (get_or xs p 0) p refl
 
   owner_low : owner xs p ≤ p
   owner_low = elim owner_is [ inl e ↦ omega (arith, e.1, first_low) | inr e ↦ omega (arith, e.1) ]

@@ -5,6 +5,7 @@ ghost use Rattle.condition.specs.Store.{count};
 ghost use Rattle.decide.specs.Search.{tried, Begun};
 ghost use Rattle.decide.specs.Picking.{Lives, Opened, PickedNext, PickedFirst};
 
+use crate::gaps::first_place;
 use crate::lanes::Rails;
 use crate::rows::{Row, Rows};
 use crate::search::search;
@@ -58,7 +59,7 @@ fn open_with(task: &Task, depth: usize, row: Row, number: u64) -> Option<Row>
     ensures { Opened task.now depth row number result }
 {
     let open = task.named + row.used;
-    let place = task.pool.iter().position(|n| *n == number)?;
+    let place = first_place(&task.pool, number)?;
     if place > open {
         return None;
     }
