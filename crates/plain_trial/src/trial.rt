@@ -71,18 +71,22 @@ impl<'a> Trial<'a> {
         Ok(watch)
     }
 
-    // The rows under one filling that fits, in order and each once; refused for those of them that may be sure.
+    // The rows that may be sure, in order and each once: of those under one filling that fits, the ones whose numbers all stand somewhere.
+    // For a number that stands nowhere another one might stand there as well.
     fn listed(&self) -> Result<Vec<Watched>, Refusal> {
         self.setting.known.check()?;
-        let mut rows = self.first_rows()?.ok_or(Refusal::NothingFits)?;
+        let heap = self.setting.heap;
+        let rows = self.first_rows()?.ok_or(Refusal::NothingFits)?;
+        let mut rows: Vec<Row> = rows
+            .into_iter()
+            .filter(|row| !row.iter().any(|n| self.others.contains(n)))
+            .collect(heap)?;
         rows.sort()?;
         rows.dedup();
         for row in &rows {
-            if !row.iter().any(|n| self.others.contains(n)) {
-                self.check_row(&row)?;
-            }
+            self.check_row(row)?;
         }
-        Ok(Watched::all(self.setting.heap, rows)?)
+        Ok(Watched::all(heap, rows)?)
     }
 
     // The rows under the first filling that fits what is known, tried in the order of its choices.
