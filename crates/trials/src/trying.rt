@@ -5,7 +5,7 @@ use crate::plain::{Numbers, holds, number};
 use decide::Standing;
 use std::alloc::{AllocError, Global};
 
-// Numbers that no case names: twice as many as a case has gaps.
+// Where numbers begin that no case names; and where others of these do.
 const OTHERS: u64 = 1000;
 
 const MORE_OTHERS: u64 = 2000;
