@@ -3,6 +3,10 @@
 
 ghost use Rattle.learn.specs.Learning.{WrittenOver};
 
+mod learning;
+
+pub use learning::learn;
+
 // A learned number may be written over its gap before asking or after: see specs/Learning.antt.
 pub fn written_over()
     ensures { WrittenOver }
