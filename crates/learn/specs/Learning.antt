@@ -4,11 +4,11 @@
 --   learned lists nodes new      what is known once node new is learned: what was known, and the condition of that node
 --   alone nodes new              the condition of node new as the only line of an answer without columns
 --   learn_told lists nodes new   what is told, the first number of the list that applies, without 10 and want of memory
---   SomeFits what, NoneFits what   what is so known some filling meets; none does
+--   SomeFits what, NoneFits what   some filling fits where what is known; none does
 --   LearnTold lists nodes new r    the result r tells that, or want of memory where it is not told, or 10 where no filling would fit
 --   Learnable lists nodes new      what they have where nothing is told of them
 --   Unchanged lists nodes lists₁ nodes₁     the lists and all that stood mean what they meant
---   Narrowed what more             where more is known, what answered a question answers it, and no sure row and no impossible one changes
+--   Narrowed what more             where more is known than what, answers stay answers, sure rows sure, and impossible rows impossible
 --   Learned lists nodes new lists₁ nodes₁   the lists and the store once node new is learned
 --   write_cell k n a     the cell a with the number n for the gap k
 --   write_cond, write_lines, write_lists     the same in a condition, in lines, in lists
@@ -56,7 +56,6 @@ pub record Unchanged (lists nodes lists₁ nodes₁ : List ℕ) : Type 0 where
   -- the lines of every answer whose nodes stood
   pub lines : (n w : ℕ) (xs : List ℕ) → lines_named (count nodes) n w xs ≡ true → lines_in nodes₁ n w xs ≡ lines_in nodes n w xs
 
--- what is known is more than it was
 pub record Narrowed (what more : Cond) : Type 0 where
   -- what answered a question answers it
   pub answers : (ts : List (List Line)) (q : Query) (out : List Line) → Answers what ts q out → Answers more ts q out
