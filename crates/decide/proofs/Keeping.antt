@@ -136,11 +136,11 @@ module _ (what : Cond) (out : List Line) (w : ℕ) (v : Filling) (cs : List Row)
           kept_wide rs k.1.1,
           k.1.2,
           λ size. rows_told what out w size v ch cs a (unless (leb (length rs * w) size) 12 (size / w))
-              (λ ss t. rw (k.0, one_sure what out ss rs t s) refl),
+              (λ ss t. rw (k.0, one_sure what out ss rs t s) refl) (inr (rs, s)),
         ),
       )
   listed (Err e) (inl m) = inr (n, inl m)
-  listed (Err e) (inr t) = inr (n, inr (λ size. rows_told what out w size v ch cs a (Some (told e)) (λ ss s. rw t refl)))
+  listed (Err e) (inr t) = inr (n, inr (λ size. rows_told what out w size v ch cs a (Some (told e)) (λ ss s. rw t refl) (inl (told e, t, refl))))
 
 -- rows of one width one after the other
 pub concat_long : (rs : List Row) (w : ℕ) → All (λ r. length r ≡ w) rs → length (concat rs) ≡ length rs * w
@@ -154,3 +154,10 @@ concat_long (r ∷ rs) w h =
 pub some_width : (n w : ℕ) → 0 < n * w → 0 < w
 some_width n zero h = absurd (omega arith)
 some_width n (suc w) h = omega arith
+
+-- what is told behind what was checked already, for a slice of one size
+pub told_behind : (a n : Told) (e : Refusal) (P : ℕ → Type 0) (size : ℕ) → a ≡ None → (n ≡ Some (told e)) ⊎ ((n ≡ None) × ((e ≡ NoMemory) ⊎ ((k : ℕ) → P k))) →
+    (first a n ≡ Some (told e)) ⊎ ((first a n ≡ None) × ((e ≡ NoMemory) ⊎ P size))
+told_behind a n e P size i (inl h) = inl (rw i h)
+told_behind a n e P size i (inr (h, inl m)) = inr (rw i h, inl m)
+told_behind a n e P size i (inr (h, inr f)) = inr (rw i h, inr (f size))

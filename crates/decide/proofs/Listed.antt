@@ -14,7 +14,7 @@ use Rattle.query.specs.Ask.{table, ask}
 use Rattle.decide.specs.Choice.{Chosen}
 use Rattle.decide.specs.Deciding.{deciding, cells_in_lines}
 use Rattle.decide.specs.Standing.{nine_told}
-use Rattle.decide.specs.SureRows.{InOrder, Candidates, first_nine, AlwaysThere, SureRows, RowsTold}
+use Rattle.decide.specs.SureRows.{InOrder, Candidates, first_nine, AlwaysThere, SureRows, Listable, RowsTold}
 use Rattle.decide.specs.SureSteps.{KeptSure}
 use Rattle.decide.proofs.Choice.{one_chosen}
 use Rattle.decide.proofs.Named.{sure_by_name}
@@ -136,8 +136,9 @@ module _ (what : Cond) (out : List Line) (cs : List Row) where
 
 -- what is told of the rows that are found is told of the list
 pub rows_told : (what : Cond) (out : List Line) (w size : ℕ) (v : Filling) → Chosen what v → (cs : List Row) → Candidates out v cs → (t : Told) →
-    ((rs : List Row) → SureRows what out rs → t ≡ first (first_nine what out cs) (unless (leb (length rs * w) size) 12 (size / w))) → RowsTold what out w size t
-rows_told what out w size v c cs a t told = record {
+    ((rs : List Row) → SureRows what out rs → t ≡ first (first_nine what out cs) (unless (leb (length rs * w) size) 12 (size / w))) → Listable what out cs t → RowsTold what out w size t
+rows_told what out w size v c cs a t told there = record {
+  there = inr (v, c, (cs, a, there));
   none = λ n. absurd (both_ways (holds v what) (n v) c.fits);
   some = λ u d ds rs b s.
       told rs s
@@ -145,4 +146,4 @@ rows_told what out w size v c cs a t told = record {
 }
 
 pub none_told : (what : Cond) (out : List Line) (w size : ℕ) → ((v : Filling) → holds v what ≡ false) → RowsTold what out w size (Some (11, 0))
-none_told what out w size n = record { none = λ _. refl; some = λ v c cs rs a s. absurd (both_ways (holds v what) (n v) c.fits) }
+none_told what out w size n = record { there = inl n; none = λ _. refl; some = λ v c cs rs a s. absurd (both_ways (holds v what) (n v) c.fits) }

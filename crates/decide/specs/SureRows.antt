@@ -6,6 +6,7 @@
 --   first_nine what out rs   number 9, for the first of the rows rs for which deciding it tells that
 --   AlwaysThere what out r   the row r is one of out under every filling that fits
 --   SureRows what out rs     rs are all rows that are always there, in order; so the sure ones for every question that out answers
+--   Listable what out cs t   number 9 is told of one of the candidates cs, or the sure rows are there
 --   list_told .. n w         what is told before any row is looked at: number 9 for what is known alone behind 1, 2, 3 and 7
 --   RowsTold what out w size t   t is told of the list of sure rows, w cells wide, for a slice of such a size: 11, 9 or 12, or nothing
 --   SureRowsTold .. r        the result r tells these, or want of memory behind list_told
@@ -52,6 +53,10 @@ pub record SureRows (what : Cond) (out : List Line) (rs : List Row) : Type 0 whe
   pub each : (r : Row) → (stands r rs ≡ true) ↔ AlwaysThere what out r
   pub sure : (ts : List (List Line)) (q : Query) → Answers what ts q out → (r : Row) → (stands r rs ≡ true) ↔ Sure what ts q r
 
+-- some candidate names too much, and that is told; or else the sure rows are a list
+abbrev pub Listable : Cond → List Line → List Row → Told → Type 0
+Listable what out cs t = ((n : ℕ × ℕ) × (first_nine what out cs ≡ Some n) × (t ≡ Some n)) ⊎ ((rs : List Row) × SureRows what out rs)
+
 abbrev pub list_told : (lists nodes answer : List ℕ) → ℕ → ℕ → Told
 list_told lists nodes answer n w = first (answer_told lists nodes answer n w) (nine_told (known_in nodes lists) [] [])
 
@@ -61,6 +66,8 @@ pub record RowsTold (what : Cond) (out : List Line) (w size : ℕ) (t : Told) : 
   -- where one does: the first candidate that names too much; else the sure rows may be more than fit
   pub some : (v : Filling) → Chosen what v → (cs rs : List Row) → Candidates out v cs → SureRows what out rs →
       t ≡ first (first_nine what out cs) (unless (nat_le (length rs * w) size) 12 (size / w))
+  -- and then these are there
+  pub there : ((v : Filling) → holds v what ≡ false) ⊎ ((v : Filling) × Chosen what v × ((cs : List Row) × Candidates out v cs × Listable what out cs t))
 
 abbrev pub SureRowsTold : {T : Type 0} → (lists nodes answer : List ℕ) → ℕ → ℕ → ℕ → Result T Refusal → Type 0
 SureRowsTold lists nodes answer n w size r =

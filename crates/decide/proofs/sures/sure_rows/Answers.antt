@@ -1,8 +1,20 @@
-use Rattle.std.proofs.Common.{rules, ◌≡◌, ◌*◌, true, false, leb, length, None, vec_len, sym, ap, ◌∙◌, inr, arith}
+use Rattle.std.proofs.Common.{rules, ◌≡◌, ◌*◌, true, false, leb, ◌⊎◌, [], length, Some, None, vec_len, sym, ap, ◌∙◌, inr, arith}
 use Rattle.std.proofs.lemmas.Bool.{le-leb, lt-leb}
-use Rattle.decide.specs.SureRows.{list_told}
-use Rattle.decide.proofs.Keeping.{concat_long, some_width}
+use Rattle.condition.specs.Refusals.{told}
+use Rattle.condition.specs.declared.Refusal.TheVariants.{NoMemory}
+use Rattle.list.specs.Layout.{lines_in, known_in}
+use Rattle.decide.specs.Standing.{answer_told, nine_told}
+use Rattle.decide.specs.SureRows.{list_told, RowsTold}
+use Rattle.decide.proofs.Keeping.{concat_long, some_width, told_behind}
 use Rattle.decide.proofs.sures.sure_rows.Goals as goal
+
+pub returns-in_err-sure-clause-refusal : goal.returns-in_err-sure-clause-refusal
+returns-in_err-sure-clause-refusal c =
+    let lists = c.args.lists.now in let nodes = c.args.nodes.now in let answer = c.args.answer.now in let n = c.args.lines in let w = c.args.width in
+    let what = known_in nodes lists in let out = lines_in nodes n w answer in let size = length c.args.rows.now in let e = c.in_err-sure.field-0.0 in
+    let h : (list_told lists nodes answer n w ≡ Some (told e)) ⊎ ((list_told lists nodes answer n w ≡ None) × ((e ≡ NoMemory) ⊎ RowsTold what out w size (Some (told e)))) =
+    told_behind (answer_told lists nodes answer n w) (nine_told what [] []) e (λ k. RowsTold what out w k (Some (told e))) size (sym c.in_ok-check_answer.ensures.refusal) c.in_err-sure.ensures in
+    search rules
 
 pub nonzero_div-result : goal.nonzero_div-result
 nonzero_div-result c =
