@@ -11,11 +11,6 @@
 --   RowsTold what out w size t   t is told of the list of sure rows, w cells wide, for a slice of such a size: 11, 9 or 12, or nothing
 --   SureRowsTold .. r        the result r tells these, or want of memory behind list_told
 --   Wrote rs n xs ys         ys is xs with the n rows rs at the front, one after the other
-use Rattle.std.specs.Prelude.{◌≡◌, ℕ, ◌+◌, ◌*◌, ◌/◌, ◌^◌, ◌<◌, true, false, ◌⊎◌, ◌↔◌, All, List, [], ◌∷◌, ◌++◌, length, drop, Some, None, Option, Result, MatchResult, nat_le}
-use Rattle.std.specs.List.{concat}
-use Rattle.std.specs.Prelude.{◌≡◌, ℕ, ◌*◌, ◌/◌, ◌^◌, ◌<◌, Bool, true, false, ◌⊎◌, ◌↔◌, All, List, [], ◌∷◌, ◌++◌, length, drop, filter, Some, None, Result, MatchResult, nat_lt, nat_le}
-use Rattle.std.specs.Prelude.{◌≡◌, ℕ, ◌*◌, ◌/◌, ◌^◌, ◌<◌, Bool, true, false, ◌⊎◌, ◌↔◌, All, List, [], ◌∷◌, ◌++◌, length, take, drop, filter, Some, None, Option, Result, MatchResult, nat_lt, nat_le}
-use Rattle.std.specs.List.{concat, list_all}
 use Rattle.std.specs.Prelude.{◌≡◌, ℕ, ◌*◌, ◌/◌, ◌^◌, ◌<◌, true, false, ◌⊎◌, ◌↔◌, All, List, [], ◌∷◌, ◌++◌, length, drop, Some, None, Result, MatchResult, nat_le}
 use Rattle.std.specs.List.{concat}
 use Rattle.std.specs.List.Sorted.{IsStrictlySortedBy}
