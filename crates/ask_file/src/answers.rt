@@ -6,6 +6,11 @@ use decide::{Standing, decide_row, sure_rows};
 use list::line_size;
 use std::alloc::Global;
 
+// What 4,096 lines of eight cells take, as lines and as rows: no answer is larger.
+const MOST_NUMBERS: u64 = 69632;
+
+const MOST_ROW_NUMBERS: u64 = 32768;
+
 // So many lines, so many cells wide, with the lists that they answer for and the store that they stand on.
 #[derive(Drop)]
 pub struct Answer<'a> {
@@ -24,7 +29,7 @@ impl<'a> Answer<'a> {
         let size = question
             .lines()
             .saturating_mul(line_size(width.min(8)) as u64)
-            .min(69632);
+            .min(MOST_NUMBERS);
         let mut numbers = vec![in heap; 0u64; size as usize]?;
         let lines = ask(&book.lists, &asked.signs, &mut nodes, &mut numbers)?;
         Ok(Answer {
@@ -39,7 +44,7 @@ impl<'a> Answer<'a> {
     // Its sure rows in order, one after the other.
     pub fn sure_rows(&self, heap: Global) -> Result<Vec<u64>, Refusal> {
         let width = self.width as u64;
-        let size = self.lines.saturating_mul(width).min(32768);
+        let size = self.lines.saturating_mul(width).min(MOST_ROW_NUMBERS);
         let mut rows = vec![in heap; 0u64; size as usize]?;
         let count = sure_rows(
             heap,
