@@ -14,17 +14,20 @@ use Rattle.evaluate.specs.Shapes.{numbers_of}
 use Rattle.evaluate.specs.declared.Filling as filled
 use Rattle.evaluate.proofs.Holding.{own_gaps}
 use Rattle.decide.specs.Bit.{lane}
-use Rattle.decide.specs.Might.{might, Dead, put_on}
+use Rattle.decide.specs.Might.{Dead, put_on}
 use Rattle.decide.specs.Sides.{side}
 use Rattle.decide.specs.Rows.{place, on_of, GoesOn, filling_of, blank, row}
 use Rattle.decide.specs.Goals.{Pool}
-use Rattle.decide.specs.Lanes.{Rails, Meets}
-use Rattle.decide.specs.Search.{tried, goal, Begun, Met, Sound, NoneFrom, GoFrom, Each, Searched, wanted, OrFirst, Extended}
+use Rattle.decide.specs.Lanes.{Meets}
+use Rattle.decide.specs.Leaves.{MeetIn}
+use Rattle.decide.specs.Search.{tried, at_once, goal, Begun, Met, Sound, NoneFrom, GoFrom, Each, Searched, wanted, OrFirst, Extended}
 use Rattle.decide.specs.Trying.{Tried}
 use Rattle.decide.specs.declared.rows.Row.{Row}
+use Rattle.decide.specs.declared.sides.Sides.{Sides}
+use Rattle.decide.specs.declared.words.Pair.{Pair}
 use Rattle.decide.specs.declared.words.Word.{Word}
 use Rattle.decide.specs.declared.task.Task.{Task}
-use Rattle.decide.proofs.Mights.{might_exact, dead_now}
+use Rattle.decide.proofs.Mights.{dead_now}
 use Rattle.decide.proofs.Steps.{few_steps}
 use Rattle.decide.proofs.Listing.{found_at, has_place, place_at, on_more, filling_more}
 
@@ -65,6 +68,14 @@ module _ (task : Task) where
   pub pool_of : (t : Bool) → Pool (numbers (goal task t)) task.named task.pool.items
   pool_of t = subst (λ (ns : List ℕ). Pool ns task.named task.pool.items) (sym (same_numbers t)) task.set_up.numbers
 
+  -- as many rows at once as a word has lanes, or two
+  pub at_once_bounds : (depth : ℕ) → (256 ≤ at_once task depth) × (at_once task depth ≤ 512)
+  at_once_bounds depth = by (eqb depth (length (tried task)))
+    where
+      by : (t : Bool) → (256 ≤ if t 512 256) × (if t 512 256 ≤ 512)
+      by true = (omega arith, omega arith)
+      by false = (omega arith, omega arith)
+
   -- a gap that is settled stays so
   more_on : (depth k : ℕ) → on_of (tried task) depth k ≡ true → on_of (tried task) (depth + 1) k ≡ true
   more_on depth k = go (place (tried task) k)
@@ -84,11 +95,11 @@ module _ (task : Task) where
 
   module _ (depth : ℕ) (rows : List Row) (before : Met) where
     -- all gaps are settled
-    module _ (deep : depth ≡ length (tried task)) (lanes : Rails) (after : Met) (might-is : Meets (tried task) depth rows task.cone.now task.goal lanes)
+    module _ (deep : depth ≡ length (tried task)) (lanes : Sides Pair) (after : Met) (meets : MeetIn (tried task) rows task.cone.now task.goal lanes)
         (sound : (t : Bool) → Sound task t (side t before)) (firsts : (t : Bool) → OrFirst (side t before) (side t lanes) rows (side t after)) where
-      -- with all gaps settled, what might meet a goal meets it
-      settled_meets : (t : Bool) (r : Row) → might (on_of (tried task) depth) (filling_of (tried task) r) true (goal task t) ≡ true → holds (filling_of (tried task) r) (goal task t) ≡ true
-      settled_meets t r h = sym (might_exact (on_of (tried task) depth) (filling_of (tried task) r) (goal task t) true all_on) ∙ h
+      -- with all gaps settled, nothing else goes on from a row than what it stands for
+      none_else : (t : Bool) (r : Row) → holds (filling_of (tried task) r) (goal task t) ≡ false → NoneFrom task depth t r
+      none_else t r h w e = own_gaps (goal task t) w (filling_of (tried task) r) (λ k u. e k (all_on k u)) ∙ h
         where
           all_on : (k : ℕ) → has (gaps (goal task t)) k ≡ true → on_of (tried task) depth k ≡ true
           all_on k u =
@@ -100,17 +111,17 @@ module _ (task : Task) where
       leaf_one t (Some s) p h f =
           (subst (λ (q : Option Row). Sound task t q) (sym f) h, λ e. absurd (both_ways (is_some p) e (ap is_some f)), λ e. absurd (both_ways (is_some p) e (ap is_some f)))
       leaf_one t None (Some r) h f = (
-        subst (λ (q : Row). holds (filling_of (tried task) q) (goal task t) ≡ true) (sym f.3) (settled_meets t (get_or rows f.0 blank) (sym (might-is f.0 f.1 t) ∙ f.2)),
+        subst (λ (q : Row). holds (filling_of (tried task) q) (goal task t) ≡ true) (sym f.3) (sym (meets f.0 f.1 t) ∙ f.2),
         λ e. refl,
         λ e. absurd (both_ways true e refl),
       )
       leaf_one t None None h f = (
         tt,
         λ e. refl,
-        λ e. All-from_get_or (NoneFrom task depth t) rows blank (λ l k. dead_now (on_of (tried task) depth) (row (tried task) rows l) (goal task t) (sym (might-is l k t) ∙ f l k)),
+        λ e. All-from_get_or (NoneFrom task depth t) rows blank (λ l k. none_else t (get_or rows l blank) (sym (meets l k t) ∙ f l k)),
       )
 
-      leaf_from : (P : Row → Type 0) → All P rows → (w : Word) (o p : Option Row) → OrFirst o w rows p → Each P o → Each P p
+      leaf_from : (P : Row → Type 0) → All P rows → (w : Pair) (o p : Option Row) → OrFirst o w rows p → Each P o → Each P p
       leaf_from P a w (Some s) p f h = subst (Each P) (sym f) h
       leaf_from P a w None (Some r) f h = subst P (sym f.3) (a f.0 blank f.1)
       leaf_from P a w None None f h = tt
@@ -148,7 +159,7 @@ module _ (task : Task) where
       }
 
       -- a row in which nothing that is left might be found
-      pub passed : l < length rows → (lanes : Rails) → Meets (tried task) depth rows task.cone.now task.goal lanes → wanted met lanes l ≡ false → Gathered depth rows before (l + 1) next met
+      pub passed : l < length rows → (lanes : Sides Word) → Meets (tried task) depth rows task.cone.now task.goal lanes → wanted met lanes l ≡ false → Gathered depth rows before (l + 1) next met
       passed u lanes m w = record { begun = g.begun; sound = g.sound; kept = g.kept; from = g.from; dead = λ t e d. All-more (NoneFrom task depth t) rows l blank u (g.dead t e d) (gone t e) }
         where
           left : (t : Bool) → is_some (side t met) ≡ false → lane l (side t lanes) ≡ false
@@ -235,8 +246,8 @@ module _ (task : Task) where
           all = rw x.behind at d
 
   -- the rows that go on from a row are few
-  pub added_few : (depth : ℕ) → depth < length (tried task) → (r : Row) → Begun task depth r → (next next₁ : List Row) → length next + 14 ≤ 256 → Extended task depth r next next₁ → length next₁ ≤ 256
-  added_few depth deep r b next next₁ room x = rw x.behind (simp length-append (omega (arith, x.many, b.few, task.set_up.small, task.gaps.few)))
+  pub added_few : (depth : ℕ) → depth < length (tried task) → (r : Row) → Begun task depth r → (next next₁ : List Row) → (m : ℕ) → length next + 14 ≤ m → Extended task depth r next next₁ → length next₁ ≤ m
+  added_few depth deep r b next next₁ m room x = rw x.behind (simp length-append (omega (arith, x.many, b.few, task.set_up.small, task.gaps.few)))
 
   -- a row that goes on
   pub one_more : (depth : ℕ) → depth < length (tried task) → (rows : List Row) (before : Met) (l : ℕ) (next : List Row) (met : Met) → Gathered depth rows before l next met → l < length rows

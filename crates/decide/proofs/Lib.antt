@@ -32,6 +32,7 @@ pub mod Gathering
 pub mod Telling
 pub mod Drawn
 pub mod Goals
+pub mod Halved
 pub mod Kept
 pub mod Picks
 pub mod Trails

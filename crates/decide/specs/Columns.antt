@@ -2,14 +2,16 @@
 --
 --   Having rows p n w            in each lane of w, whether the row there has the number n at place p
 --   Alike rows p q w             in each lane of w, whether the row there has the same number at p and at q
+--   Same rows a b w              in each lane of w, whether two cells have the same number in the row there
 --   Earlier rows p ws            ws has a word for each earlier place than p, and it says so for p and that place
 --   Named rows p ns ws           ws has a word for each of the numbers ns, and it says whether a row has that number at p
 --   ColumnOf rows p ns c         the column c says so for p and each earlier place, and for each of the numbers ns
 --   Filled rows ns cs            the columns cs are those of the first places
 use Rattle.std.specs.Prelude.{◌≡◌, ℕ, ◌<◌, List, [], length, ◌==◌, slice_index, slice_index_or}
 use Rattle.decide.specs.Bit.{lane}
-use Rattle.decide.specs.Rows.{number_at, blank}
+use Rattle.decide.specs.Rows.{number_at, number_in, blank}
 use Rattle.decide.specs.declared.rows.Row.{Row}
+use Rattle.decide.specs.declared.rows.Spot.{Spot}
 use Rattle.decide.specs.declared.words.Word.{Word}
 use Rattle.decide.specs.declared.columns.Column.{Column}
 
@@ -18,6 +20,9 @@ Having rows p n w = (l : ℕ) → l < length rows → lane l w ≡ (number_at (s
 
 abbrev pub Alike : List Row → ℕ → ℕ → Word → Type 0
 Alike rows p q w = (l : ℕ) → l < length rows → lane l w ≡ (number_at (slice_index_or rows l blank) p == number_at (slice_index_or rows l blank) q)
+
+abbrev pub Same : List Row → Spot → Spot → Word → Type 0
+Same rows a b w = (l : ℕ) → l < length rows → lane l w ≡ (number_in (slice_index_or rows l blank) a == number_in (slice_index_or rows l blank) b)
 
 abbrev pub no_word : Word
 no_word = record { bits = [] }

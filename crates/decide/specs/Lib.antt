@@ -18,6 +18,7 @@ pub mod Rows
 pub mod Columns
 pub mod Goals
 pub mod Lanes
+pub mod Leaves
 pub mod Search
 pub mod Trying
 pub mod Cones

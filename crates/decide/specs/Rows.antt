@@ -6,10 +6,14 @@
 --   GoesOn r p n u s       s is the row r with the number n at place p, and with u of the fresh numbers in use
 --   filling_of gs r        the filling that a row stands for; a gap that is not tried has 0
 --   row gs rows l          that of the row at l
-use Rattle.std.specs.Prelude.{◌≡◌, ℕ, Bool, false, cond as if, List, [], Option, position, ◌==◌, nat_lt, slice_index, slice_index_or}
+--   number_in r s          the number that a cell has in a row, from where it stands; Inside depth s: it is one, or stands at a place
+--                          before depth
+use Rattle.std.specs.Prelude.{◌≡◌, ℕ, ◌<◌, Bool, false, cond as if, List, [], Option, position, ◌==◌, nat_lt, slice_index, slice_index_or}
 use Rattle.std.specs.Option.{option_map_or}
 use Rattle.evaluate.specs.Filling.{Filling}
 use Rattle.decide.specs.declared.rows.Row.{Row}
+use Rattle.decide.specs.declared.rows.Spot.{Spot}
+use Rattle.decide.specs.declared.rows.Spot.TheVariants.{Number, Place}
 
 unfoldable pub place : List ℕ → ℕ → Option ℕ
 place gs k = position (λ g. g == k) gs
@@ -32,3 +36,11 @@ blank = record { numbers = []; used = 0 }
 
 abbrev pub row : List ℕ → List Row → ℕ → Filling
 row gs rows l = filling_of gs (slice_index_or rows l blank)
+
+abbrev pub number_in : Row → Spot → ℕ
+number_in r (Number n) = n
+number_in r (Place p) = number_at r p
+
+abbrev pub Inside : ℕ → Spot → Type 0
+Inside depth (Number n) = Unit {0}
+Inside depth (Place p) = p < depth

@@ -2,6 +2,7 @@
 --
 --   tried task                 the gaps that are tried
 --   goal task t                one of the two goals
+--   at_once task depth         how many rows of a depth are tried at once
 --   Begun task depth r         the row's numbers are of the pool: of the named ones, and of the first fresh ones, those in use
 --   Sound task t o             a row that was found meets its goal
 --   NoneFrom task depth t r    no filling that goes on from the row r meets the goal
@@ -9,19 +10,19 @@
 --   Each P o                   P of what an option holds, if anything
 --   Searched .. before after   what was found, before a search and after it
 --   wanted m lanes l           whether a goal that has no row yet might be met in lane l
---   First word rows o          the first row whose lane says yes; OrFirst s word rows o: unless there is one already
+--   First lanes rows o         the first row whose lane says yes; OrFirst s lanes rows o: unless there is one already
 --   Extended .. next next₁     the rows that go on from one row at the next gap, put behind others
-use Rattle.std.specs.Prelude.{◌≡◌, ℕ, ◌+◌, ◌<◌, ◌≤◌, Bool, true, false, cond as if, not, ◌&&◌, ◌||◌, List, ◌++◌, All, length, take, is_some, Some, None, Option, nat_lt, slice_index, slice_index_or}
+use Rattle.std.specs.Prelude.{◌≡◌, ℕ, ◌+◌, ◌<◌, ◌≤◌, Bool, true, false, cond as if, not, ◌&&◌, ◌||◌, List, ◌++◌, All, length, take, is_some, Some, None, Option, ◌==◌, nat_lt, slice_index, slice_index_or}
 use Rattle.condition.specs.Cond.{Cond, has}
 use Rattle.evaluate.specs.Filling.{Filling, holds}
-use Rattle.decide.specs.Bit.{lane}
+use Rattle.decide.specs.Bit.{lane, wide}
 use Rattle.decide.specs.Might.{Extends, Dead}
 use Rattle.decide.specs.Sides.{side}
 use Rattle.decide.specs.Rows.{on_of, GoesOn, filling_of, blank}
 use Rattle.decide.specs.Goals.{goal_of}
-use Rattle.decide.specs.Lanes.{Rails}
 use Rattle.decide.specs.declared.rows.Row.{Row}
 use Rattle.decide.specs.declared.sides.Sides.{Sides}
+use Rattle.decide.specs.declared.words.Pair.{Pair}
 use Rattle.decide.specs.declared.words.Word.{Word}
 use Rattle.decide.specs.declared.task.Task.{Task}
 
@@ -30,6 +31,9 @@ tried task = task.gaps.names.items
 
 abbrev pub goal : Task → Bool → Cond
 goal task t = goal_of task.cone.now task.goal t
+
+abbrev pub at_once : Task → ℕ → ℕ
+at_once task depth = if (depth == length (tried task)) 512 256
 
 pub record Begun (task : Task) (depth : ℕ) (r : Row) : Type 0 where
   pub few : r.used ≤ depth
@@ -60,16 +64,16 @@ pub record Searched (task : Task) (depth : ℕ) (rows : List Row) (before after 
   pub kept : (t : Bool) → is_some (side t after) ≡ false → is_some (side t before) ≡ false
   pub dead : (t : Bool) → is_some (side t after) ≡ false → All (NoneFrom task depth t) rows
 
-abbrev pub wanted : Met → Rails → ℕ → Bool
+abbrev pub wanted : Met → Sides Word → ℕ → Bool
 wanted m lanes l = (not (is_some m.yes) && lane l lanes.yes) || (not (is_some m.no) && lane l lanes.no)
 
-abbrev pub First : Word → List Row → Option Row → Type 0
-First word rows (Some r) = (l : ℕ) × (l < length rows) × (lane l word ≡ true) × (r ≡ slice_index_or rows l blank)
-First word rows None = (l : ℕ) → l < length rows → lane l word ≡ false
+abbrev pub First : Pair → List Row → Option Row → Type 0
+First lanes rows (Some r) = (l : ℕ) × (l < length rows) × (wide lanes l ≡ true) × (r ≡ slice_index_or rows l blank)
+First lanes rows None = (l : ℕ) → l < length rows → wide lanes l ≡ false
 
-abbrev pub OrFirst : Option Row → Word → List Row → Option Row → Type 0
-OrFirst (Some s) word rows o = o ≡ Some s
-OrFirst None word rows o = First word rows o
+abbrev pub OrFirst : Option Row → Pair → List Row → Option Row → Type 0
+OrFirst (Some s) lanes rows o = o ≡ Some s
+OrFirst None lanes rows o = First lanes rows o
 
 -- one for each number that is named or in use, and one for the next, which is fresh
 pub record Extended (task : Task) (depth : ℕ) (r : Row) (next next₁ : List Row) : Type 0 where

@@ -14,12 +14,12 @@ ghost use Rattle.decide.specs.Surveying.{FewNamed};
 use crate::candidates::{Choice, Chosen};
 use crate::coning::build_cone;
 use crate::gaps::first_place;
-use crate::lanes::Rails;
 use crate::picking::pick_first;
 use crate::rows::Row;
 use crate::simplifying::ALWAYS;
 use crate::surveying::Survey;
 use crate::task::{Goal, Task};
+use crate::words::Pair;
 use arrayvec::ArrayVec;
 use condition::Refusal;
 use std::alloc::Global;
@@ -37,7 +37,7 @@ pub(crate) fn choose(heap: Global, survey: &Survey, gaps: &[u64]) -> Result<Opti
         shows: ALWAYS,
     };
     let task = Task::of(cone.nodes.as_slice(), goal, gaps, survey.notes.numbers());
-    let mut values = vec![in heap; Rails::default(); task.cone[0] as usize]?;
+    let mut values = vec![in heap; Pair::default(); task.cone[0] as usize]?;
     let order = others_first(&task);
     let Some(row) = pick_first(&task, &order, values.as_mut_slice()) else {
         return Ok(None);

@@ -1,8 +1,13 @@
 // The gaps that are tried, each with its place.
 ghost use Rattle.std.specs.Prelude.{◌≡◌, ◌≢◌, ℕ, ◌<◌, ◌≤◌, All, AllPairs, length, slice_index};
-ghost use Rattle.decide.specs.Rows.{place};
+ghost use Rattle.condition.specs.Shapes.{cell_of};
+ghost use Rattle.evaluate.specs.Filling.{fill_cell};
+ghost use Rattle.decide.specs.Rows.{place, filling_of, Inside, number_in};
+ghost use Rattle.decide.specs.declared.rows.Row.{Row};
 
+use crate::rows::Spot;
 use arrayvec::ArrayVec;
+use condition::Cell;
 
 // Gaps in the order in which they are settled, each once.
 #[derive(Drop)]
@@ -38,6 +43,20 @@ impl Gaps {
         ensures { result ≡ place self.now.names.items gap }
     {
         first_place(&self.names, gap)
+    }
+
+    // Where a cell has its number in a row with all gaps settled; a gap that is not tried has 0.
+    pub(crate) fn spot(&self, cell: Cell) -> Spot
+        ensures inside { Inside (length self.now.names.items) result }
+        ensures number { (r : Row) → number_in r result ≡ fill_cell (filling_of self.now.names.items r) (cell_of cell) }
+    {
+        match cell {
+            Cell::Number(n) => Spot::Number(n),
+            Cell::Gap(k) => match self.place(k) {
+                Some(p) => Spot::Place(p),
+                None => Spot::Number(0),
+            },
+        }
     }
 }
 

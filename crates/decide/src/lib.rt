@@ -20,6 +20,7 @@ mod folding;
 mod gaps;
 mod interning;
 mod lanes;
+mod leaves;
 mod marked;
 mod matching;
 mod noting;

@@ -6,14 +6,14 @@ ghost use Rattle.decide.specs.Search.{tried, Begun};
 ghost use Rattle.decide.specs.Picking.{Lives, Opened, PickedNext, PickedFirst};
 
 use crate::gaps::first_place;
-use crate::lanes::Rails;
 use crate::rows::{Row, Rows};
 use crate::search::search;
 use crate::sides::Sides;
 use crate::task::Task;
+use crate::words::Pair;
 
 // The numbers of the first filling that meets what is known with what is shown, if one does.
-pub(crate) fn pick_first(task: &Task, order: &[u64], values: &mut [Rails]) -> Option<Row>
+pub(crate) fn pick_first(task: &Task, order: &[u64], values: &mut [Pair]) -> Option<Row>
     requires room { count task.now.cone.now ≤ length values.old }
     requires all { (k : ℕ) → k < length task.now.pool.items → has order.now (slice_index task.now.pool.items k) ≡ true }
     ensures { PickedFirst task.now order.now result }
@@ -29,13 +29,7 @@ pub(crate) fn pick_first(task: &Task, order: &[u64], values: &mut [Rails]) -> Op
 }
 
 // The row with the first number for the next gap that can be continued, if one can.
-fn pick_next(
-    task: &Task,
-    order: &[u64],
-    depth: usize,
-    row: Row,
-    values: &mut [Rails],
-) -> Option<Row>
+fn pick_next(task: &Task, order: &[u64], depth: usize, row: Row, values: &mut [Pair]) -> Option<Row>
     requires room { count task.now.cone.now ≤ length values.old }
     requires all { (k : ℕ) → k < length task.now.pool.items → has order.now (slice_index task.now.pool.items k) ≡ true }
     requires deep { depth < length (tried task.now) }
@@ -72,7 +66,7 @@ fn open_with(task: &Task, depth: usize, row: Row, number: u64) -> Option<Row>
 }
 
 // Whether some filling that goes on from a row, in which the gaps before `depth` are settled, meets what is known with what is shown.
-fn can_meet(task: &Task, depth: usize, row: Row, values: &mut [Rails]) -> bool
+fn can_meet(task: &Task, depth: usize, row: Row, values: &mut [Pair]) -> bool
     requires room { count task.now.cone.now ≤ length values.old }
     requires deep { depth ≤ length (tried task.now) }
     requires begun { Begun task.now depth row }

@@ -7,6 +7,13 @@ use crate::gaps::Gaps;
 use arrayvec::ArrayVec;
 use evaluate::Filling;
 
+// Where a cell has its number in a row: it is one, or stands for the row's number at a place.
+#[derive(Clone, Copy)]
+pub(crate) enum Spot {
+    Number(u64),
+    Place(usize),
+}
+
 // Numbers for the gaps that are settled, and how many of the fresh numbers are in use.
 #[derive(Clone, Copy, Default)]
 pub(crate) struct Row {
@@ -37,11 +44,11 @@ impl Row {
     }
 }
 
-// Up to 256 rows, one in each lane.
+// Up to 512 rows.
 #[derive(Drop)]
 pub(crate) struct Rows {
-    pub(crate) list: ArrayVec<Row, 256>,
-    ghost few: { length list.items ≤ 256 },
+    pub(crate) list: ArrayVec<Row, 512>,
+    ghost few: { length list.items ≤ 512 },
 }
 
 impl Rows {

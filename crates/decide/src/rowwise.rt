@@ -9,12 +9,12 @@ ghost use Rattle.decide.specs.Surveying.{FewNamed};
 use crate::Standing;
 use crate::checking::{check_answer, check_named_few};
 use crate::coning::build_cone;
-use crate::lanes::Rails;
 use crate::marked::Marks;
 use crate::sought::Sought;
 use crate::surveying::Survey;
 use crate::task::Task;
 use crate::trying::try_all;
+use crate::words::Pair;
 use condition::{MOST_NODES, Refusal};
 use std::alloc::Global;
 
@@ -103,7 +103,7 @@ fn settle_row(heap: Global, survey: &Survey, gaps: &[u64]) -> Result<Standing, R
         gaps,
         survey.notes.numbers(),
     );
-    let mut values = vec![in heap; Rails::default(); task.cone[0] as usize]?;
+    let mut values = vec![in heap; Pair::default(); task.cone[0] as usize]?;
     let found = try_all(&task, values.as_mut_slice());
     Ok(Standing::of(found.yes.is_some(), found.no.is_some()))
 }

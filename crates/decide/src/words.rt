@@ -1,7 +1,7 @@
 // Words: 256 answers at once, one in each lane.
 ghost use Rattle.std.specs.Prelude.{◌≡◌, ℕ, ◌<◌, ◌≤◌, not, ◌&&◌, ◌||◌, length, ◌==◌, slice_index_or};
 ghost use Rattle.std.specs.Fn.{FnReturnsAt};
-ghost use Rattle.decide.specs.Bit.{lane};
+ghost use Rattle.decide.specs.Bit.{lane, wide};
 
 use std::array;
 use std::ops::{BitAnd, BitOr, Not};
@@ -52,6 +52,27 @@ impl Word {
         ensures { result ≡ lane k self }
     {
         self.bits[k / 64] >> k % 64 & 1 == 1
+    }
+}
+
+// Two words; what each of them says is up to the sense in which conditions are worked out.
+#[derive(Clone, Copy, Default)]
+pub(crate) struct Pair {
+    pub(crate) first: Word,
+    pub(crate) second: Word,
+}
+
+impl Pair {
+    // What lane l of both says, where those of the second come behind the 256 of the first.
+    pub(crate) fn test(self, l: usize) -> bool
+        requires { l < 512 }
+        ensures { result ≡ wide self l }
+    {
+        if l < 256 {
+            self.first.test(l)
+        } else {
+            self.second.test(l - 256)
+        }
     }
 }
 

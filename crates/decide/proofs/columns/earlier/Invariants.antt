@@ -5,5 +5,5 @@ use Rattle.decide.proofs.columns.earlier.Given as goal
 abbrev pub invariant-loop-q : goal.invariant-loop-q
 invariant-loop-q l = record {
   many : length l.words.items ≡ l.q-counter;
-  each : (q : ℕ) → q < l.q-counter → Alike l.rows.list.items l.place q (get_or l.words.items q no_word);
+  each : (q : ℕ) → q < l.q-counter → Alike l.rows l.place q (get_or l.words.items q no_word);
 }

@@ -19,5 +19,5 @@ loop-place-preserved c =
     let i = c.loop-place.invariant in
     rw c.push.ensures.items (record {
       many = simp length-append (omega (arith, i.many));
-      filled = filled_more c.args.rows.now.list.items c.args.named.now c.loop-place.columns.items _ i.filled (rw i.many (record { earlier = c.earlier.ensures; named = c.with_named.ensures }));
+      filled = filled_more c.args.rows.now c.args.named.now c.loop-place.columns.items _ i.filled (rw i.many (record { earlier = c.earlier.ensures; named = c.with_named.ensures }));
     })

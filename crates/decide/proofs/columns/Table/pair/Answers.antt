@@ -22,4 +22,4 @@ returns-then-p-q c l h =
     let t = c.args.self.now in
     rw (words_at c.deref-then-p-q.result.now t.columns.items c.args.q c.index-deref-q.result c.deref-then-p-q-2.result.now c.deref-then-p-q.ensures.0 c.requires.1 c.deref-then-p-q-2.ensures.0)
     ((t.filled c.args.q c.requires.1).earlier.each c.args.p c.if-p-q.true l h
-    ∙ eqb_sym (number_at (get_or t.rows.now.list.items l blank) c.args.q) (number_at (get_or t.rows.now.list.items l blank) c.args.p))
+    ∙ eqb_sym (number_at (get_or t.rows.now l blank) c.args.q) (number_at (get_or t.rows.now l blank) c.args.p))
