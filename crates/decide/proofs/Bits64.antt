@@ -1,10 +1,12 @@
 -- The bits of numbers put together.
-use Rattle.std.proofs.Common.{◌≡◌, ℕ, zero, suc, ◌-◌, ◌*◌, ◌/◌, ◌%◌, ◌^◌, ◌<◌, min, max, Bool, true, false, not, ◌&&◌, ◌||◌, eqb, ◌⊎◌, sym, refl, ap, ◌∙◌, subst, inl, inr, mod-eq_of_lt, pow-suc, div-one, one-add, arith}
-use native.Mathlib.Nat.{mul-add-mod_self_right}
+use Rattle.std.proofs.Common.{◌≡◌, ℕ, zero, suc, ◌+◌, ◌-◌, ◌*◌, ◌/◌, ◌%◌, ◌^◌, ◌<◌, min, max, Bool, true, false, not, ◌&&◌, ◌||◌, eqb, ◌⊎◌, sym, refl, ap, ◌∙◌, subst, inl, inr, mod-eq_of_lt, pow-suc, div-one, one-add, add-one, arith}
+use native.Mathlib.Nat.{mul-add-mod_self_right, mul-mod_left}
+use Rattle.std.proofs.Math.Bool.{and-true, and-false, or-false}
 use lib.Bits.{bit_and, bit_or, bit_xor, differ, and_step, or_step, xor_step, xor_add_and}
-use Rattle.std.proofs.lemmas.Nat.{shr-shr, and_shr, or_shr, xor_shr, and_mask, mod_below, pow_below, shl-shr, one_shl, or_comm}
+use Rattle.std.proofs.lemmas.Nat.{shr-shr, and_shr, or_shr, xor_shr, and_mask, mod_below, pow_below, shl-shr}
 use Rattle.std.proofs.lemmas.Bool.{eq-eqb, ne_eqb}
 use Rattle.std.proofs.lemmas.Bool.Decides.{nat_tests}
+use mir.Val.{bool_byte}
 use Rattle.decide.specs.Bit.{bit}
 
 odd_even : (x : ℕ) → (x % 2 ≡ 0) ⊎ (x % 2 ≡ 1)
@@ -65,7 +67,7 @@ twice_half k = ap (λ (z : ℕ). z / 2) (pow-suc 2 k) ∙ shl-shr (2 ^ k) 1
 twice_even : (k : ℕ) → 2 ^ suc k % 2 ≡ 0
 twice_even k = ap (λ (z : ℕ). z % 2) (pow-suc 2 k ∙ omega arith) ∙ mul-add-mod_self_right (2 ^ k) 2 0
 
-pub bit_one : (l k : ℕ) → bit l (2 ^ k) ≡ eqb l k
+bit_one : (l k : ℕ) → bit l (2 ^ k) ≡ eqb l k
 bit_one zero zero = refl
 bit_one zero (suc k) = bit_low (2 ^ suc k) ∙ rw (twice_even k) (sym (ne_eqb 0 (suc k) (λ e. omega arith)))
 bit_one (suc l) zero = bit_suc l 1 ∙ bit_none l ∙ sym (ne_eqb (suc l) 0 (λ e. omega arith))
@@ -87,6 +89,20 @@ bit_not k l a h f =
     let e : 2 ^ k - 1 - a ≡ bit_xor a (2 ^ k - 1) = omega (arith, xor_add_and a (2 ^ k - 1), all) in
     ap (bit l) e ∙ ap (λ (z : ℕ). eqb (z % 2) 1) (xor_shr a (2 ^ k - 1) l) ∙ xor_low (a / 2 ^ l) ((2 ^ k - 1) / 2 ^ l) (bit_all k l h)
 
--- a number with one answer turned to yes
-pub bit_with : (a k : ℕ) → k < 64 → (l : ℕ) → bit l (bit_or a (1 * 2 ^ k % 18446744073709551616)) ≡ (eqb l k || bit l a)
-bit_with a k h l = ap (bit l) (or_comm a _) ∙ (bit-or l _ a ∙ ap (λ (t : Bool). t || bit l a) (ap (bit l) (one_shl k 64 h) ∙ bit_one l k))
+-- the answers past 64 are cut off
+bit_cut : (y k : ℕ) → k < 64 → bit k (y % 2 ^ 64) ≡ bit k y
+bit_cut y k h = sym (ap (bit k) (and_mask y 64)) ∙ (bit-and k y (2 ^ 64 - 1) ∙ (ap (λ (t : Bool). bit k y && t) (bit_all 64 k h) ∙ and-true (bit k y)))
+
+bit_byte : (b : Bool) (k : ℕ) → bit k (bool_byte b) ≡ (eqb k 0 && b)
+bit_byte true k = bit_one k 0 ∙ sym (and-true (eqb k 0))
+bit_byte false k = bit_none k ∙ sym (and-false (eqb k 0))
+
+-- each answer one place up, and another at 0
+pub bit_first : (x : ℕ) (b : Bool) → bit 0 (bit_or (x * 2 % 2 ^ 64) (bool_byte b)) ≡ b
+bit_first x b = bit-or 0 (x * 2 % 2 ^ 64) (bool_byte b) ∙ rw (bit_cut (x * 2) 0 (omega arith), bit_low (x * 2), mul-mod_left x 2, bit_byte b 0) refl
+
+pub bit_up : (x : ℕ) (b : Bool) (k : ℕ) → k + 1 < 64 → bit (k + 1) (bit_or (x * 2 % 2 ^ 64) (bool_byte b)) ≡ bit k x
+bit_up x b k h =
+    let up : bit (k + 1) (x * 2) ≡ bit k x = ap (λ (j : ℕ). bit j (x * 2)) (add-one k) ∙ (bit_suc k (x * 2) ∙ ap (bit k) (shl-shr x 1)) in
+    let e : eqb (k + 1) 0 ≡ false = ne_eqb (k + 1) 0 (λ e. omega arith) in
+    bit-or (k + 1) (x * 2 % 2 ^ 64) (bool_byte b) ∙ rw (bit_cut (x * 2) (k + 1) h, up, bit_byte b (k + 1), e) (or-false (bit k x))

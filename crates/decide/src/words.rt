@@ -1,7 +1,7 @@
 // Words: 256 answers at once, one in each lane.
-ghost use Rattle.std.specs.Prelude.{◌≡◌, ℕ, ◌<◌, ◌≤◌, not, ◌&&◌, ◌||◌, length, ◌==◌, slice_index_or};
+ghost use Rattle.std.specs.Prelude.{◌≡◌, ℕ, ◌+◌, ◌<◌, ◌≤◌, not, ◌&&◌, ◌||◌, length, ◌==◌, slice_index_or};
 ghost use Rattle.std.specs.Fn.{FnReturnsAt};
-ghost use Rattle.decide.specs.Bit.{lane, wide};
+ghost use Rattle.decide.specs.Bit.{bit, lane, wide};
 
 use std::array;
 use std::ops::{BitAnd, BitOr, Not};
@@ -27,22 +27,10 @@ impl Word {
         requires callable { F.IsAlwaysCallable test }
         ensures { (l : ℕ) (d : T) → l < length items.now → FnReturnsAt F.Fn test (slice_index_or items.now l d) (lane l result) }
     {
-        let mut word = Word::same(false);
-        for (l, item) in items.iter().enumerate() {
-            if test(item) {
-                word = word.with(l);
-            }
+        let mut bits = [0; 4];
+        for i in 0..4 {
+            bits[i] = passing_bits(items, 64 * i, &test);
         }
-        word
-    }
-
-    // The word with yes in lane k.
-    fn with(self, k: usize) -> Word
-        requires { k < 256 }
-        ensures { (l : ℕ) → l < 256 → lane l result ≡ (l == k || lane l self) }
-    {
-        let mut bits = self.bits;
-        bits[k / 64] |= 1 << k % 64;
         Word { bits }
     }
 
@@ -113,4 +101,17 @@ impl Not for Word {
             bits: self.bits.map(|a| !a),
         }
     }
+}
+
+// The answers of up to 64 items, from one on, to a test: one in each bit.
+fn passing_bits<T, F: Fn(&T) -> bool>(items: &[T], from: usize, test: &F) -> u64
+    requires few { from ≤ 256 }
+    requires callable { F.IsAlwaysCallable test.now }
+    ensures { (l : ℕ) (d : T) → l < 64 → from + l < length items.now → FnReturnsAt F.Fn test.now (slice_index_or items.now (from + l) d) (bit l result) }
+{
+    let mut bits = 0;
+    for l in (from..items.len().min(from + 64)).rev() {
+        bits = bits << 1 | u64::from(test(&items[l]));
+    }
+    bits
 }

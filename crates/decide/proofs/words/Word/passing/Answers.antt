@@ -1,38 +1,33 @@
-use Rattle.std.proofs.Common.{◌≡◌, ◌≢◌, ℕ, ◌+◌, ◌<◌, Bool, ◌⊎◌, List, get_or, sym, refl, ◌∙◌, subst, inl, inr, arith}
+use Rattle.std.proofs.Common.{◌≡◌, ℕ, ◌+◌, ◌*◌, ◌/◌, ◌%◌, ◌<◌, Bool, ◌⊎◌, List, length, get_or, set, sym, ap, ◌∙◌, subst, inl, inr, arith, length-set, get_or-set_same, get_or-set_other}
 use Rattle.std.specs.Fn.{FnReturnsAt}
-use Rattle.std.proofs.lemmas.Bool.{eq-eqb, ne_eqb, cases_eq}
-use Rattle.std.proofs.lemmas.List.{get_or_read}
-use Rattle.decide.specs.Bit.{lane}
-use Rattle.decide.specs.declared.words.Word.{Word}
+use Rattle.std.proofs.lemmas.Bool.{cases_eq}
+use Rattle.std.proofs.lemmas.Nat.{div-add-mod'}
+use Rattle.decide.specs.Bit.{bit, lane}
+use Rattle.decide.proofs.Fours.{low}
 use Rattle.decide.proofs.words.Word.passing.Goals as goal
-use Rattle.decide.proofs.words.Word.passing.Goals.{then-test, else-test}
 
--- one lane more
-seen_more : {X : Type 0} (R : X → Bool → Type 0) (xs : List X) (l : ℕ) (old new : Word) (b : Bool)
-    → ((k : ℕ) (d : X) → k < l → R (get_or xs k d) (lane k old)) → ((d : X) → R (get_or xs l d) b) → lane l new ≡ b → ((k : ℕ) → k ≢ l → k < l → lane k new ≡ lane k old)
-    → (k : ℕ) (d : X) → k < l + 1 → R (get_or xs k d) (lane k new)
-seen_more {X} R xs l old new b seen here is same k d h = by (cases_eq k l)
+-- one number more
+seen_more : {X : Type 0} (R : X → Bool → Type 0) (xs : List X) (bits : List ℕ) (i new : ℕ) → i < length bits
+    → ((k : ℕ) (d : X) → k < 64 * i → k < length xs → R (get_or xs k d) (bit (k % 64) (get_or bits (k / 64) 0)))
+    → ((l : ℕ) (d : X) → l < 64 → 64 * i + l < length xs → R (get_or xs (64 * i + l) d) (bit l new))
+    → (k : ℕ) (d : X) → k < 64 * (i + 1) → k < length xs → R (get_or xs k d) (bit (k % 64) (get_or (set bits i new) (k / 64) 0))
+seen_more {X} R xs bits i new inside seen here k d h m = by (cases_eq (k / 64) i)
   where
-    by : (k ≡ l) ⊎ (k ≡ l → ⊥) → R (get_or xs k d) (lane k new)
-    by (inl e) = rw e (subst (λ (t : Bool). R (get_or xs l d) t) (sym is) (here d))
-    by (inr ne) = subst (λ (t : Bool). R (get_or xs k d) t) (sym (same k ne (omega (arith, ne)))) (seen k d (omega (arith, ne)))
+    parts : 64 * (k / 64) + k % 64 ≡ k
+    parts = omega (arith, div-add-mod' k 64)
 
-pub loop-l-preserved : goal.loop-l-preserved
-loop-l-preserved g c =
-    let xs = c.args.items.now in let l = c.loop-l.l in let old = c.loop-l.word in
-    let low : l < 256 = omega (arith, c.requires.few) in
-    let here : (d : _) → FnReturnsAt g.F.Fn c.args.test (get_or xs l d) c.test.result =
-    λ d. record { shown = _; shows = get_or_read xs l c.index-items-l.result (omega arith) c.index-items-l.is d; says = record { met = c.test.ensures } } in
-    elim c.if-test.branch [
-      | then-test w ↦
-          let ne : (k : ℕ) → k ≢ l → k < 256 → lane k w.with-word.result ≡ lane k old = λ k d h. w.with-word.ensures k h ∙ rw (ne_eqb k l d) refl in
-          rw w.word-is (record {
-            seen = seen_more (FnReturnsAt g.F.Fn c.args.test) xs l old w.with-word.result c.test.result c.loop-l.invariant.seen here
-                (w.with-word.ensures l low ∙ (rw (eq-eqb l l refl) refl ∙ sym w.if-test.true)) (λ k d h. ne k d (omega arith));
-            unseen = λ k h m. ne k (λ e. omega arith) m ∙ c.loop-l.invariant.unseen k (omega arith) m;
-          })
-      | else-test w ↦ rw w.word-is (record {
-        seen = seen_more (FnReturnsAt g.F.Fn c.args.test) xs l old old c.test.result c.loop-l.invariant.seen here (c.loop-l.invariant.unseen l (omega arith) low ∙ sym w.if-test.false) (λ k d h. refl);
-        unseen = λ k h m. c.loop-l.invariant.unseen k (omega arith) m;
-      })
-    ]
+    by : (k / 64 ≡ i) ⊎ (k / 64 ≡ i → ⊥) → R (get_or xs k d) (bit (k % 64) (get_or (set bits i new) (k / 64) 0))
+    by (inl e) =
+        let j : 64 * i + k % 64 ≡ k = sym (ap (λ (q : ℕ). 64 * q + k % 64) e) ∙ parts in
+        rw (e, get_or-set_same bits i new 0 inside) (subst (λ (q : ℕ). R (get_or xs q d) (bit (k % 64) new)) j (here (k % 64) d (low k) (omega arith)))
+    by (inr ne) = rw (get_or-set_other bits i (k / 64) new 0 ne) (seen k d (omega (arith, low k)) m)
+
+pub loop-i-preserved : goal.loop-i-preserved
+loop-i-preserved g c = record {
+  four = omega (arith, length-set c.loop-i.bits c.loop-i.i c.passing_bits.result);
+  seen = seen_more (FnReturnsAt g.F.Fn c.args.test) c.args.items.now c.loop-i.bits c.loop-i.i c.passing_bits.result (omega arith) c.loop-i.invariant.seen c.passing_bits.ensures;
+}
+
+pub returns : goal.returns
+unfolding lane
+returns g c l d h = c.loop-i.invariant.seen l d (omega arith) h
