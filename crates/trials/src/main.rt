@@ -4,6 +4,7 @@
 use random::Random;
 
 mod answers;
+mod cases;
 mod drawing;
 mod names;
 mod plain;
