@@ -1,7 +1,7 @@
 -- The two goals of a search, and how the row stands by them.
-use Rattle.std.proofs.Common.{◌≡◌, ℕ, ◌≤◌, Bool, true, false, List, [], ◌∷◌, ◌++◌, map, length, get_or, is_some, Some, None, Option, sym, refl, ap, ◌∙◌, inl, inr, arith}
+use Rattle.std.proofs.Common.{◌≡◌, ℕ, ◌≤◌, Bool, true, false, not, ◌&&◌, List, [], ◌∷◌, ◌++◌, map, length, get_or, is_some, Some, None, Option, sym, refl, ap, ◌∙◌, inl, inr, arith}
 use Rattle.std.proofs.lemmas.List.{get_or_past}
-use Rattle.std.proofs.lemmas.Bool.{both_ways, cases_lt}
+use Rattle.std.proofs.lemmas.Bool.{both_ways, cases_lt, and_parts, not-true}
 use Rattle.condition.specs.Cond.{Cell, known, Cond, both, not_so, cells_of, numbers_in, has, Within}
 use Rattle.condition.specs.Store.{cond_at}
 use Rattle.condition.proofs.Lists.{has_left, has_right, has_at}
@@ -10,14 +10,16 @@ use Rattle.evaluate.specs.Filling.{holds}
 use Rattle.evaluate.specs.Shapes.{numbers_of}
 use Rattle.evaluate.specs.declared.Filling.{Filling}
 use Rattle.evaluate.proofs.Holding.{holds_both, holds_not}
-use Rattle.list.specs.Lists.{Line, Row}
+use Rattle.list.specs.Lists.{Line, Row, all_filled, stands}
+use Rattle.query.specs.Ask.{Query, ask}
+use Rattle.answer.specs.Promise.{Answers}
 use Rattle.decide.specs.Deciding.{gives, shows, cells_in_lines, conds_in_lines}
 use Rattle.decide.specs.Cones.{Coned}
 use Rattle.decide.specs.Goals.{goal_of}
 use Rattle.decide.specs.Noting.{gap_noted, numbers_noted}
 use Rattle.decide.specs.Reaching.{Covers}
 use Rattle.decide.specs.Sought.{known_of, lines_of, deciding_of}
-use Rattle.decide.specs.Standing.{named_cells, standing, Decided}
+use Rattle.decide.specs.Standing.{named_cells, standing, Decided, Found}
 use Rattle.decide.specs.Surveying.{numbers_met, gaps_met, numbers_for, gaps_for, Surveyed, FewNamed}
 use Rattle.decide.specs.Trying.{Tried, Names}
 use Rattle.decide.specs.declared.noting.Notes.{Notes}
@@ -26,6 +28,7 @@ use Rattle.decide.specs.declared.task.Goal.{Goal}
 use Rattle.decide.proofs.Coverage.{covers_none, covers_both, covers_left, covers_right, covers_self, covers_more}
 use Rattle.decide.proofs.Passing.{passing_has, passing_low}
 use Rattle.decide.proofs.Settled.{Tells, decided}
+use Rattle.decide.proofs.Shown.{asked_as, deciding_enough}
 use Rattle.decide.proofs.Surveyed.{row_covered, numbers_met_are, gaps_met_are}
 
 -- the cells that the condition for a row compares
@@ -127,3 +130,29 @@ module _ (q : Sought) (ms : List Bool) (s : Notes) (y : Surveyed q ms s) (names 
       (λ g i. gaps_tried q ms s y names f g (v.gaps g i))
       y.noted.low
       (omega (arith, f.few, f.numbers))
+
+  -- the row stands under a filling that fits where what was searched for holds
+  stands_as : (v : fillings.Filling) → holds v (known_of q) ≡ true → (ts : List (List Line)) (k : Query) → Answers (known_of q) ts k (lines_of q) →
+      stands q.row.now (ask k (all_filled v ts)) ≡ holds v shown
+  stands_as v h ts k a = asked_as (known_of q) ts k (lines_of q) q.row.now a v h ∙ sym (deciding_enough v (lines_of q) q.row.now)
+
+  pub found : (t : Bool) (o : Option Filling) → Tried (goal_of cone goal t) o → Found (known_of q) (lines_of q) q.row.now t o
+  found true (Some w) h =
+      let p = and_parts (holds (numbers_of w) (known_of q)) (holds (numbers_of w) shown) (sym (holds_both (numbers_of w) (known_of q) shown) ∙ (sym (goal_shows (numbers_of w)) ∙ h)) in
+      (p.0, λ ts k a. stands_as (numbers_of w) p.0 ts k a ∙ p.1)
+  found false (Some w) h =
+      let p = and_parts (holds (numbers_of w) (known_of q)) (holds (numbers_of w) (not_so shown))
+      (sym (holds_both (numbers_of w) (known_of q) (not_so shown)) ∙ (sym (goal_lacks (numbers_of w)) ∙ h)) in
+      (p.0, λ ts k a. stands_as (numbers_of w) p.0 ts k a ∙ not-true (holds (numbers_of w) shown) (sym (holds_not (numbers_of w) shown) ∙ p.1))
+  found true None h = λ v e ts k a. stands_as v e ts k a ∙ missed (holds v (known_of q)) (holds v shown) e (sym (holds_both v (known_of q) shown) ∙ (sym (goal_shows v) ∙ h v))
+    where
+      missed : (b d : Bool) → b ≡ true → (b && d) ≡ false → d ≡ false
+      missed true d e f = f
+      missed false d e f = absurd (both_ways false refl e)
+  found false None h = λ v e ts k a. stands_as v e ts k a ∙
+      missed (holds v (known_of q)) (holds v shown) e (ap (λ (t : Bool). holds v (known_of q) && t) (sym (holds_not v shown)) ∙ (sym (holds_both v (known_of q) (not_so shown)) ∙ (sym (goal_lacks v) ∙ h v)))
+    where
+      missed : (b d : Bool) → b ≡ true → (b && not d) ≡ false → d ≡ true
+      missed true true e f = refl
+      missed true false e f = sym f
+      missed false d e f = absurd (both_ways false refl e)

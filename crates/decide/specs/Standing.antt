@@ -12,16 +12,20 @@
 --   TellsSure what out row b          b says whether the row is sure, for every question that out answers
 --   TellsPossible what out row b      b says whether it is possible
 --   Decided what out row s            s is how the row stands, for every question that out answers
-use Rattle.std.specs.Prelude.{◌≡◌, ℕ, ◌+◌, ◌*◌, ◌/◌, ◌^◌, ◌<◌, ◌≤◌, min, Bool, true, false, ◌↔◌, List, ◌++◌, length, Some, None, Result, MatchResult, ◌==◌, nat_le, slice_index_or}
+--   Found what out row t o            o is a filling that fits and shows the row, or for false lacks it; or none where there is none
+use Rattle.std.specs.Prelude.{◌≡◌, ℕ, ◌+◌, ◌*◌, ◌/◌, ◌^◌, ◌<◌, ◌≤◌, min, Bool, true, false, not, ◌↔◌, List, ◌++◌, length, Option, Some, None, Result, MatchResult, ◌==◌, nat_le, slice_index_or}
 use Rattle.condition.specs.Cond.{Cell, Cond, cells_of, numbers_in, gaps_in, has}
 use Rattle.condition.specs.Refusals.{Told, told, first, unless}
 use Rattle.condition.specs.declared.Refusal.{Refusal}
 use Rattle.condition.specs.declared.Refusal.TheVariants.{NoMemory}
 use Rattle.condition.specs.Store.{count, store_told}
 use Rattle.evaluate.specs.Filling.{Filling, holds}
-use Rattle.list.specs.Lists.{Line, Row}
+use Rattle.evaluate.specs.Shapes.{numbers_of}
+use Rattle.evaluate.specs.declared.Filling as filled
+use Rattle.list.specs.Lists.{Line, Row, all_filled}
+use Rattle.list.specs.Lists as lists
 use Rattle.list.specs.Layout.{line_size, lines_in, known_in, lines_fit, lines_named, lists_told, named_told}
-use Rattle.query.specs.Ask.{Query}
+use Rattle.query.specs.Ask.{Query, ask}
 use Rattle.answer.specs.Promise.{Answers, Sure, Possible}
 use Rattle.decide.specs.Counting.{counted}
 use Rattle.decide.specs.Deciding.{deciding, cells_in_lines, conds_in_lines, SureBelow, PossibleBelow}
@@ -120,3 +124,9 @@ pub record Decided (what : Cond) (out : List Line) (row : Row) (s : Standing) : 
   -- the same over the numbers below 2^64
   pub sure_below : (ts : List (List Line)) (q : Query) → Answers what ts q out → (is_sure s ≡ true) ↔ SureBelow (2 ^ 64) what ts q row
   pub possible_below : (ts : List (List Line)) (q : Query) → Answers what ts q out → (is_possible s ≡ true) ↔ PossibleBelow (2 ^ 64) what ts q row
+
+abbrev pub Found : Cond → List Line → Row → Bool → Option filled.Filling → Type 0
+Found what out row t (Some f) =
+    (holds (numbers_of f) what ≡ true) × ((ts : List (List Line)) (q : Query) → Answers what ts q out → lists.stands row (ask q (all_filled (numbers_of f) ts)) ≡ t)
+Found what out row t None =
+    (v : Filling) → holds v what ≡ true → (ts : List (List Line)) (q : Query) → Answers what ts q out → lists.stands row (ask q (all_filled v ts)) ≡ not t

@@ -41,7 +41,8 @@ mod trying;
 mod words;
 
 pub use building::{Cone, begin};
-pub use rowwise::{decide_row, possible, sure};
+pub use rowwise::{decide_row, possible, row_fillings, sure};
+pub use sides::Sides;
 pub use sures::sure_rows;
 
 // How a row stands: in the answer under every filling that fits what is known, under some and not under others, or under none; and
