@@ -1,5 +1,7 @@
 // Random lists with questions on them, and the rows of an answer beside those that the question gives on the filled lists.
 
+use crate::names::Names;
+use crate::plain::nodes_of;
 use crate::random::Random;
 use crate::showing::show;
 use condition::{Cell, Refusal, cell_at};
@@ -14,7 +16,7 @@ const MOST_WORK: u64 = 100000;
 const NODES: u64 = 6;
 
 // Gaps g0 to g2, numbers 0 to 2 in cells, 0 to 3 in gaps.
-pub const GAPS: u64 = 3;
+const GAPS: u64 = 3;
 
 const NUMBERS: u64 = 3;
 
@@ -42,6 +44,21 @@ impl Case {
             Ok(_) | Err(Refusal::TooManyLines | Refusal::TooCostly) => Ok(None),
             Err(refusal) => Err(refusal),
         }
+    }
+
+    // All that the nodes, the lists and the question name.
+    pub fn names(&self, heap: Global) -> Result<Names, AllocError> {
+        let mut names = Names::none(heap);
+        names.add_nodes(nodes_of(&self.nodes))?;
+        let first = self.lists.get(2..).unwrap_or(&[]);
+        let second = add_list(first, &mut names)?;
+        add_list(second, &mut names)?;
+        for sign in self.signs.chunks_exact(6) {
+            if sign[0] == 3 || sign[0] == 4 {
+                names.add_row(&sign[2..3])?;
+            }
+        }
+        Ok(names)
     }
 }
 
@@ -82,14 +99,22 @@ fn draw_list(random: &mut Random, lists: &mut Vec<u64>) -> Result<(), AllocError
     Ok(())
 }
 
+// A number or a gap, behind other numbers.
+fn draw_cell(random: &mut Random, numbers: &mut Vec<u64>) -> Result<(), AllocError> {
+    numbers.extend_from_slice(&<[u64; 2]>::from(some_cell(random)))
+}
+
 // A number or a gap.
-pub fn draw_cell(random: &mut Random, numbers: &mut Vec<u64>) -> Result<(), AllocError> {
-    let cell = if random.below(2) == 0 {
+pub fn some_cell(random: &mut Random) -> Cell {
+    if random.below(2) == 0 {
         Cell::Number(random.below(NUMBERS))
     } else {
-        Cell::Gap(random.below(GAPS))
-    };
-    numbers.extend_from_slice(&<[u64; 2]>::from(cell))
+        some_gap(random)
+    }
+}
+
+pub fn some_gap(random: &mut Random) -> Cell {
+    Cell::Gap(random.below(GAPS))
 }
 
 // Nodes of all kinds, comparisons as often as all others; what they name may be a node before them or not.
@@ -152,6 +177,16 @@ fn draw_sign(random: &mut Random, kind: u64, signs: &mut Vec<u64>) -> Result<(),
 
 fn put_sign(signs: &mut Vec<u64>, kind: u64, a: u64, b: u64, c: u64) -> Result<(), AllocError> {
     signs.extend_from_slice(&[kind, a, b, c, 0, 0])
+}
+
+// What the list at the front of some numbers names, which is two columns wide; what stands behind it.
+fn add_list<'a>(numbers: &'a [u64], names: &mut Names) -> Result<&'a [u64], AllocError> {
+    let lines = numbers.first().copied().unwrap_or(0).min(3) as usize;
+    let (list, rest) = numbers.split_at(numbers.len().min(2 + 5 * lines));
+    for line in list.get(2..).unwrap_or(&[]).chunks_exact(5) {
+        names.add_cells(&[[line[1], line[2]], [line[3], line[4]]])?;
+    }
+    Ok(rest)
 }
 
 // The filling whose numbers are the digits of f to a base.

@@ -6,6 +6,7 @@ use random::Random;
 mod answers;
 mod cases;
 mod drawing;
+mod learning;
 mod names;
 mod plain;
 mod questions;
@@ -25,5 +26,6 @@ fn run(rt: &HostRuntime) -> anyhow::Result<()> {
     let mut drawn = Random::of(SEED + 1);
     questions::ask_questions(rt, heap, &mut random, &mut drawn)?;
     answers::decide_lines(rt, heap, &mut random)?;
-    answers::decide_answers(rt, heap, &mut random)
+    answers::decide_answers(rt, heap, &mut random)?;
+    learning::learn_all(rt, heap, &mut random)
 }

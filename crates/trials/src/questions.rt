@@ -3,7 +3,6 @@
 
 use crate::answers::Standings;
 use crate::cases::{Case, Shown, asked_rows, compare, draw, fail, filling};
-use crate::names::Names;
 use crate::plain::{holds, nodes_of};
 use crate::random::Random;
 use crate::trying::Seen;
@@ -191,7 +190,7 @@ fn standing(
 ) -> Result<Option<Standing>, Refusal> {
     let lines = question.lines();
     let standing = decide_row(heap, &case.lists, nodes, out, lines, 2, row)?;
-    let mut names = names(heap, case)?;
+    let mut names = case.names(heap)?;
     names.add_row(row)?;
     let tried = names.tried(OTHERS)?;
     let plain = nodes_of(&case.nodes);
@@ -205,31 +204,6 @@ fn standing(
         }
     }
     Ok((seen.standing() == standing).then_some(standing))
-}
-
-// All that the nodes, the lists and the question name.
-fn names(heap: Global, case: &Case) -> Result<Names, AllocError> {
-    let mut names = Names::none(heap);
-    names.add_nodes(nodes_of(&case.nodes))?;
-    let first = case.lists.get(2..).unwrap_or(&[]);
-    let second = add_list(first, &mut names)?;
-    add_list(second, &mut names)?;
-    for sign in case.signs.chunks_exact(6) {
-        if sign[0] == 3 || sign[0] == 4 {
-            names.add_row(&sign[2..3])?;
-        }
-    }
-    Ok(names)
-}
-
-// What the list at the front of some numbers names, which is two columns wide; what stands behind it.
-fn add_list<'a>(numbers: &'a [u64], names: &mut Names) -> Result<&'a [u64], AllocError> {
-    let lines = numbers.first().copied().unwrap_or(0).min(3) as usize;
-    let (list, rest) = numbers.split_at(numbers.len().min(2 + 5 * lines));
-    for line in list.get(2..).unwrap_or(&[]).chunks_exact(5) {
-        names.add_cells(&[[line[1], line[2]], [line[3], line[4]]])?;
-    }
-    Ok(rest)
 }
 
 // The signs of a question that agreed, by their kinds.
