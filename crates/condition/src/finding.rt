@@ -19,7 +19,7 @@ pub fn find(nodes: &[u64], node: Node) -> Option<u64>
 }
 
 // Whether a node stands at place i, behind all that it names.
-fn stands_as(nodes: &[u64], i: u64, node: Node) -> bool
+pub fn stands_as(nodes: &[u64], i: u64, node: Node) -> bool
     requires { (i < count nodes.now) × (1 + 5 * count nodes.now ≤ length nodes.now) }
     ensures { Decides result (StandsAs nodes.now i node) }
 {

@@ -1,5 +1,5 @@
 -- Laws of cones: what stands in a grown cone, and a node found in a cone or added to it.
-use Rattle.std.proofs.Common.{◌≡◌, ℕ, zero, suc, ◌+◌, ◌*◌, ◌<◌, true, List, sym, refl, ap, ◌∙◌, inl, inr, arith}
+use Rattle.std.proofs.Common.{◌≡◌, ℕ, zero, suc, ◌+◌, ◌*◌, ◌<◌, true, List, sym, refl, ap, ◌∙◌, subst, inl, inr, arith}
 use Rattle.std.proofs.lemmas.Bool.{cases_lt, lt-ltb, and_from}
 use Rattle.condition.specs.Cond.{Cond, cells_of}
 use Rattle.condition.specs.Store.{count, cond_at, Grown}
@@ -13,6 +13,7 @@ use Rattle.condition.proofs.Added.{added_decoded}
 use Rattle.evaluate.specs.Filling.{Filling, holds}
 use Rattle.evaluate.specs.Values.{value_of}
 use Rattle.evaluate.proofs.Worked.{by_node}
+use Rattle.decide.specs.Building.{Interned}
 use Rattle.decide.specs.Reaching.{Covers}
 use Rattle.decide.proofs.Coverage.{covers_none, covers_both}
 use Rattle.decide.specs.Folding.{Begun, Neat, Tidy, Covered, Draws, truth, Says, StandsFor, Built}
@@ -48,6 +49,7 @@ built_kept xs n r b s = record {
   few = omega arith;
   stands = s.stands;
   value = s.value;
+  new = λ j p q. absurd (omega arith);
   covered = λ ns gs c d. c;
 }
 
@@ -69,11 +71,35 @@ built_added xs ys n r h m a = record {
   few = omega (arith, a.place, a.more);
   stands = omega (arith, a.more);
   value = node_says xs n m (cond_at ys r) a.new;
+  new = λ j p q. omega (arith, a.place, a.more);
   covered = λ ns gs c d j q. elim (cases_lt j (count xs)) [
     | inl l ↦ rw (grown_cond xs ys a.grown j l) (c j l)
     | inr l ↦ let e : j ≡ r = omega (arith, a.place, a.more) in rw (e, a.new) (covers_node ns gs xs n h m c d)
   ];
 }
+
+-- a node that was found or added
+module _ (xs ys : List ℕ) (n : Node) (r : ℕ) where
+  pub begun_interned : Begun xs → Interned xs ys n r → Begun ys
+  begun_interned b (inl f) = subst Begun (sym f.0) b
+  begun_interned b (inr a) = record {
+    fits = a.grown.fits;
+    two = omega (arith, b.two, a.grown.more);
+    first = grown_cond xs ys a.grown 0 (omega (arith, b.two)) ∙ b.first;
+    second = grown_cond xs ys a.grown 1 (omega (arith, b.two)) ∙ b.second;
+  }
+
+  pub tidy_interned : Tidy xs → Neat (count xs) n → Named n → Interned xs ys n r → Tidy ys
+  tidy_interned t h m (inl f) = subst Tidy (sym f.0) t
+  tidy_interned t h m (inr a) = tidy_added xs ys n r t h m a
+
+  pub built_interned : Begun xs → Neat (count xs) n → Named n → Interned xs ys n r → Built xs ys n r
+  built_interned b h m (inl f) = subst (λ (t : List ℕ). Built xs t n r) (sym f.0) (built_found xs n r b m f.1)
+  built_interned b h m (inr a) = built_added xs ys n r h m a
+
+  pub interned_says : Interned xs ys n r → cond_at ys r ≡ node_of n (cond_at xs)
+  interned_says (inl f) = ap (λ t. cond_at t r) f.0 ∙ stands_means xs r n f.1
+  interned_says (inr a) = a.new
 
 -- a node built for another that holds where it does
 pub built_for : (xs ys : List ℕ) (n m : Node) (r : ℕ) → StandsFor xs n m → Built xs ys m r → Built xs ys n r
@@ -82,6 +108,7 @@ built_for xs ys n m r s b = record {
   few = b.few;
   stands = b.stands;
   value = λ v. b.value v ∙ s.value v;
+  new = b.new;
   covered = λ ns gs c d. b.covered ns gs c (s.draws ns gs d);
 }
 

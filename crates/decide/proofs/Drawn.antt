@@ -33,7 +33,7 @@ compared_named a b = go (has_name (cell_of a) && has_name (cell_of b)) refl
     go true e = and_parts (has_name (cell_of a)) (has_name (cell_of b)) e
     go false e = tt
 
-from_named : (k a b c d : ℕ) → Named (node_from k a b c d)
+pub from_named : (k a b c d : ℕ) → Named (node_from k a b c d)
 from_named zero a b c d = tt
 from_named (suc zero) a b c d = tt
 from_named (suc (suc zero)) a b c d = compared_named (cell_from a b) (cell_from c d)

@@ -13,14 +13,14 @@ use Rattle.evaluate.specs.Filling.{Filling, holds}
 use Rattle.evaluate.specs.Values.{value_of}
 use Rattle.evaluate.proofs.Holding.{holds_never}
 use Rattle.evaluate.proofs.Worked.{by_node}
-use Rattle.decide.specs.Folding.{Begun, Over, Draws, truth, Built, place_in, renamed, Folds}
+use Rattle.decide.specs.Folding.{Begun, Over, Draws, truth, Built, place_in, renamed, PlaceOf, Folds}
 use Rattle.decide.specs.Counting.{passing_below}
 use Rattle.decide.specs.Reaching.{EachPlace, marked, Closed, marked_places}
 use Rattle.decide.proofs.Counted.{counted_yes, counted_more}
 use Rattle.decide.proofs.Places.{GoesOnAt, left_next, left_over}
 use Rattle.decide.proofs.Simpler.{truth_never}
 
-each_map : (n : Node) (P Q : ℕ → Type 0) → ((j : ℕ) → P j → Q j) → EachPlace n P → EachPlace n Q
+pub each_map : (n : Node) (P Q : ℕ → Type 0) → ((j : ℕ) → P j → Q j) → EachPlace n P → EachPlace n Q
 each_map Always P Q f h = tt
 each_map Never P Q f h = tt
 each_map (Equal a b) P Q f h = tt
@@ -66,6 +66,7 @@ folds_past nodes i n marks xs ys ps folds low gap = record {
     | inl p ↦ folds.value k p m v
     | inr p ↦ absurd (both_ways (get_or marks k false) (gap k p l) m)
   ];
+  onto = λ j a b. let o : PlaceOf i marks ps j = folds.onto j a b in (o.0, omega (arith, o.1), o.2, o.3);
   covered = λ ns gs c d. folds.covered ns gs c (λ k l. d k (omega arith));
 }
 
@@ -82,6 +83,7 @@ folds_none nodes marks xs ps begun = record {
   few = omega arith;
   stand = λ k l m. absurd (omega arith);
   value = λ k l m v. absurd (omega arith);
+  onto = λ j a b. absurd (omega arith);
   covered = λ ns gs c d. c;
 }
 
@@ -146,6 +148,12 @@ module _ (nodes : List ℕ) (i n : ℕ) (marks : List Bool) (xs ys ps : List ℕ
       value = λ k l m v. elim (cases_lt k i) [
         | inl p ↦ let ne : k ≢ i = omega arith in rw get_or-set_other (ap (holds v) (grown_cond ys zs built.grown (get_or ps k 0) (folds.stand k p m)) ∙ folds.value k p m v)
         | inr p ↦ let q : k ≡ i = omega arith in rw (q, get_or-set_same ps i r 0 long) (here v)
+      ];
+      onto = λ j a b. elim (cases_lt j (count ys)) [
+        | inl p ↦
+            let o : PlaceOf i marks ps j = folds.onto j a p in let ne : o.0 ≢ i = omega (arith, o.1) in
+            (o.0, omega (arith, o.1), o.2, get_or-set_other ps i o.0 r 0 ne ∙ o.3)
+        | inr p ↦ (i, omega arith, set_here, get_or-set_same ps i r 0 long ∙ built.new j p b)
       ];
       covered = λ ns gs c d. built.covered ns gs (folds.covered ns gs c (λ k l. d k (omega arith))) (draws_renamed (place_in i ps) (decoded nodes i) ns gs (d i (omega arith) set_here));
     }

@@ -9,7 +9,7 @@ use Rattle.condition.specs.declared.Node.{Node}
 use Rattle.condition.specs.declared.Node.TheVariants.{Always, Never, Equal, Not, Both, Either}
 use Rattle.condition.proofs.Lists.{has_none, has_cons, has_head, has_tail}
 use Rattle.condition.proofs.Decoding.{at_decoded}
-use Rattle.decide.specs.Reaching.{places_of, EachPlace, own_cells, marked, Closed, marked_cells, Covers, AllCovered}
+use Rattle.decide.specs.Reaching.{places_of, EachPlace, own_cells, marked, names, reached, Closed, marked_cells, Covers, AllCovered}
 use Rattle.decide.proofs.Coverage.{covers_none, covers_both, covers_left, covers_right, covers_self, covers_before, covers_behind}
 use Rattle.decide.proofs.Passing.{marked_none, marked_more, marked_pass}
 
@@ -90,7 +90,43 @@ place_each (Either a b) i j P e l h = elim (two_places a b j h) [ inl q ↦ subs
 pub record Closing (nodes : List ℕ) (n i : ℕ) (ms₀ ms : List Bool) : Type 0 where
   pub closed : (k j : ℕ) → i ≤ k → k < n → j < k → marked ms k ≡ true → has (places_of (decoded nodes k)) j ≡ true → marked ms j ≡ true
   pub kept : (k : ℕ) → marked ms₀ k ≡ true → marked ms k ≡ true
+  pub exact : (j : ℕ) → reached nodes i (marked ms) j ≡ reached nodes n (marked ms₀) j
   pub reached : (ns gs : List ℕ) → AllCovered ns gs nodes n ms₀ → AllCovered ns gs nodes n ms
+
+-- tests that say the same have the same reached
+reached_same : (nodes : List ℕ) (n : ℕ) (p q : ℕ → Bool) → ((k : ℕ) → p k ≡ q k) → (j : ℕ) → reached nodes n p j ≡ reached nodes n q j
+unfolding reached
+reached_same nodes zero p q h j = h j
+reached_same nodes (suc n) p q h j =
+    reached_same nodes n (λ k. p k || (p n && names n (decoded nodes n) k)) (λ k. q k || (q n && names n (decoded nodes n) k)) (λ k. rw (h k, h n) refl) j
+
+reached_step : (nodes : List ℕ) (i : ℕ) (p q : ℕ → Bool) → ((k : ℕ) → q k ≡ (p k || (p i && names i (decoded nodes i) k))) → (j : ℕ) → reached nodes i q j ≡ reached nodes (i + 1) p j
+unfolding reached
+reached_step nodes i p q h j = let e : i + 1 ≡ suc i = omega arith in rw e (reached_same nodes i q (λ k. p k || (p i && names i (decoded nodes i) k)) h j)
+
+pub closing_begins : (nodes : List ℕ) (n : ℕ) (ms : List Bool) → Closing nodes n n ms ms
+closing_begins nodes n ms = record {
+  closed = λ k j p q b h g. absurd (omega arith);
+  kept = λ k h. h;
+  exact = λ j. refl;
+  reached = λ ns gs c. c;
+}
+
+-- past a node that is not marked
+pub closing_past : (nodes : List ℕ) (n i : ℕ) (ms₀ ms : List Bool) → marked ms i ≡ false → Closing nodes n (i + 1) ms₀ ms → Closing nodes n i ms₀ ms
+closing_past nodes n i ms₀ ms f c = record {
+  closed = λ k j p q b h g. elim (cases_lt i k) [
+    | inl u ↦ c.closed k j (omega arith) q b h g
+    | inr u ↦ let w : k ≡ i = omega arith in absurd (both_ways (marked ms k) (rw w f) h)
+  ];
+  kept = c.kept;
+  exact = λ j. reached_step nodes i (marked ms) (marked ms) (λ k. rw f (none (marked ms k))) j ∙ c.exact j;
+  reached = c.reached;
+}
+  where
+    none : (b : Bool) → b ≡ (b || false)
+    none true = refl
+    none false = refl
 
 pub closing_more : (nodes : List ℕ) (n i : ℕ) (ms₀ ms rs : List Bool) → i < n → n ≤ count nodes → marked ms i ≡ true →
     ((j : ℕ) → marked rs j ≡ (marked ms j || (ltb j i && has (places_of (decoded nodes i)) j))) →
@@ -101,6 +137,7 @@ closing_more nodes n i ms₀ ms rs l s m e c = record {
     | inr u ↦ let w : k ≡ i = omega arith in e j ∙ or_right (marked ms j) _ (and_from (ltb j i) _ (lt-ltb j i (omega arith)) (ap (λ t. has (places_of (decoded nodes t)) j) (sym w) ∙ g))
   ];
   kept = λ k h. keep k (c.kept k h);
+  exact = λ j. reached_step nodes i (marked ms) (marked rs) (λ k. rw m (e k)) j ∙ c.exact j;
   reached = λ ns gs a k q h. ⊎_elim (c.reached ns gs a k q) (λ x.
       let y : (ltb k i ≡ true) × (has (places_of (decoded nodes i)) k ≡ true) = and_parts (ltb k i) (has (places_of (decoded nodes i)) k) x in
       child_covered ns gs nodes i k (omega arith) (ltb-true k i y.0) y.1 (c.reached ns gs a i l m)) (or_cases (marked ms k) _ (sym (e k) ∙ h));

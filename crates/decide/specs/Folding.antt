@@ -18,6 +18,7 @@
 --   place_in i ps j          the place ps gives for an earlier node than i; that of never for others
 --   renamed f n              the node n with f applied to the places that it names
 --   DrawsAll ..             the cells of each marked comparison have numbers of ns and gaps of gs alone
+--   PlaceOf n marks ps j    j is the place that ps gives for a marked one of the first n
 --   Folds nodes n marks xs ys ps   ys is the cone xs with the marked of the first n nodes folded into it, at the places ps
 use Rattle.std.specs.Prelude.{◌≡◌, ℕ, ◌+◌, ◌*◌, ◌<◌, ◌≤◌, Bool, true, false, cond as if, List, [], ◌∷◌, length, nat_lt, slice_index, slice_index_or}
 use Rattle.condition.specs.Cond.{always, never, cells_of}
@@ -108,6 +109,8 @@ pub record Built (xs ys : List ℕ) (n : Node) (r : ℕ) : Type 0 where
   pub few : count ys ≤ count xs + 1
   pub stands : r < count ys
   pub value : (v : Filling) → holds v (cond_at ys r) ≡ value_of v n (truth xs v)
+  -- a node that is new stands at that place
+  pub new : (j : ℕ) → count xs ≤ j → j < count ys → r ≡ j
   -- no other numbers and gaps than there were, and those of the node
   pub covered : (ns gs : List ℕ) → Covered xs ns gs → Draws n ns gs → Covered ys ns gs
 
@@ -126,10 +129,15 @@ renamed f (Either a b) = Either (f a) (f b)
 abbrev pub DrawsAll : List ℕ → ℕ → List Bool → List ℕ → List ℕ → Type 0
 DrawsAll nodes n marks ns gs = (i : ℕ) → i < n → slice_index_or marks i false ≡ true → Draws (decoded nodes i) ns gs
 
+abbrev pub PlaceOf : ℕ → List Bool → List ℕ → ℕ → Type 0
+PlaceOf n marks ps j = (i : ℕ) × (i < n) × (marked marks i ≡ true) × (slice_index ps i ≡ j)
+
 pub record Folds (nodes : List ℕ) (n : ℕ) (marks : List Bool) (xs ys ps : List ℕ) : Type 0 where
   pub grown : Grown xs ys
   pub few : count ys ≤ count xs + counted n (marked marks)
   pub stand : (i : ℕ) → i < n → slice_index_or marks i false ≡ true → slice_index ps i < count ys
   pub value : (i : ℕ) → i < n → slice_index_or marks i false ≡ true → (v : Filling) → holds v (cond_at ys (slice_index ps i)) ≡ holds v (cond_at nodes i)
+  -- each new node is the place of a marked one
+  pub onto : (j : ℕ) → count xs ≤ j → j < count ys → PlaceOf n marks ps j
   -- no other numbers and gaps than there were, and those of the marked nodes
   pub covered : (ns gs : List ℕ) → Covered xs ns gs → DrawsAll nodes n marks ns gs → Covered ys ns gs

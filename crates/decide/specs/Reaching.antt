@@ -4,13 +4,15 @@
 --   EachPlace n P            P of each place that the node n names
 --   own_cells n               the cells that a node compares itself
 --   marked ms i               whether node i is marked
+--   names i n j               whether the node n at place i names the place j before it
+--   reached nodes n p j       whether one of the first n nodes that passes the test p reaches j, or j passes it
 --   Closed nodes n ms         of the first n nodes, all that a marked one names before it is marked
 --   cells_among nodes is      the cells that the nodes at the places is compare
 --   marked_places ms n        the marked ones of the first n places
 --   marked_cells nodes ms n   the cells that the marked ones of the first n nodes compare
 --   Covers ns gs cs           the numbers in the cells cs are among ns, and the gaps among gs
-use Rattle.std.specs.Prelude.{◌≡◌, ℕ, ◌<◌, Bool, true, false, List, [], ◌∷◌, flat_map, slice_index_or}
-use Rattle.condition.specs.Cond.{Cell, never, cells_of, numbers_in, gaps_in, Within}
+use Rattle.std.specs.Prelude.{◌≡◌, ℕ, zero, suc, ◌<◌, Bool, true, false, ◌&&◌, ◌||◌, List, [], ◌∷◌, flat_map, nat_lt, slice_index_or}
+use Rattle.condition.specs.Cond.{Cell, never, cells_of, numbers_in, gaps_in, has, Within}
 use Rattle.condition.specs.Store.{cond_at}
 use Rattle.condition.specs.Shapes.{node_of}
 use Rattle.condition.specs.Nodes.{decoded}
@@ -39,6 +41,14 @@ own_cells n = cells_of (node_of n (λ j. never))
 
 abbrev pub marked : List Bool → ℕ → Bool
 marked ms i = slice_index_or ms i false
+
+abbrev pub names : ℕ → Node → ℕ → Bool
+names i n j = nat_lt j i && has (places_of n) j
+
+-- from the last node to the first, each one that is reached has those reached that it names
+unfoldable pub reached : List ℕ → ℕ → (ℕ → Bool) → ℕ → Bool
+reached nodes zero p j = p j
+reached nodes (suc n) p j = reached nodes n (λ k. p k || (p n && names n (decoded nodes n) k)) j
 
 abbrev pub Closed : List ℕ → ℕ → List Bool → Type 0
 Closed nodes n ms = (i : ℕ) → i < n → marked ms i ≡ true → EachPlace (decoded nodes i) (λ j. j < i → marked ms j ≡ true)

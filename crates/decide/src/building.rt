@@ -7,10 +7,7 @@ ghost use Rattle.decide.specs.OneWay.{begun_once, tidy_once};
 use crate::simplifying::Simple;
 use condition::{Cell, Node, add};
 
-// A store, of any count of nodes, that begins with always and never, and an index of its nodes.
-//
-// The index is a slice of places by hash, 0 where there is none. It is only a hint: what it holds is checked against the store. So any
-// slice may serve; one of zeros, twice as long as the nodes are many, leaves hardly a node standing twice.
+// A store, of any count of nodes, that begins with always and never, and an index of its nodes: see `intern`.
 //
 // Each slice is lent for a lifetime of its own: with one for both, the prover would not tell the owner what its store holds afterwards.
 #[derive(Drop)]

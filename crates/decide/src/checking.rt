@@ -58,7 +58,7 @@ pub(crate) fn check_named_few(survey: &Survey) -> Result<ArrayVec<u64, 6>, Refus
 }
 
 // How many of n lines, w cells wide, lie whole in a slice.
-fn whole_lines(answer: &[u64], n: u64, w: u64) -> usize
+pub fn whole_lines(answer: &[u64], n: u64, w: u64) -> usize
     ensures is { result ≡ whole_lines n w answer.now }
     ensures inside { result * line_size w ≤ length answer.now }
 {

@@ -74,7 +74,7 @@ fn fill_cone(survey: &Survey, places: &mut [u64], cone: &mut [u64], index: &mut 
 }
 
 // How many of the first n marks are set.
-fn count_marks(marks: &[bool], n: usize) -> usize
+pub fn count_marks(marks: &[bool], n: usize) -> usize
     requires { n ≤ length marks.now }
     ensures { result ≡ counted n (marked marks.now) }
 {

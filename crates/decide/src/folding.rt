@@ -36,7 +36,7 @@ impl Cone<'_, '_> {
 }
 
 // Node i over the cone's places of the nodes that it names.
-fn renamed(node: Node, places: &[u64], i: usize) -> Node
+pub fn renamed(node: Node, places: &[u64], i: usize) -> Node
     requires { i ≤ length places.now }
     ensures { result ≡ renamed (place_in i places.now) node }
 {

@@ -1,17 +1,68 @@
-// Nodes of a cone, each kept once: found through the index, or added behind those that stand.
-ghost use Rattle.std.specs.Prelude.{◌≡◌, ◌+◌, ◌*◌, ◌<◌, ◌≤◌, true, length, MatchResult};
+// Nodes of a store, each kept once: found through an index, or added behind those that stand.
+//
+// An index is a slice of places by hash, each written one higher, and 0 where there is none. It is only a hint: what it holds is checked
+// against the store. So any slice may serve; one of zeros, twice as long as the nodes are many, leaves hardly a node standing twice.
+ghost use Rattle.std.specs.Prelude.{◌≡◌, ◌+◌, ◌*◌, ◌<◌, ◌≤◌, length, MatchResult};
 ghost use Rattle.condition.specs.Store.{count, cond_at};
 ghost use Rattle.condition.specs.Shapes.{node_of, Named};
 ghost use Rattle.condition.specs.Nodes.{StandsAs};
 ghost use Rattle.decide.specs.Folding.{Neat, Room, Built};
-ghost use Rattle.decide.specs.Building.{Same};
+ghost use Rattle.decide.specs.Building.{Same, Interned};
 
 use crate::building::Cone;
-use condition::{Node, add, nth_node};
+use condition::{Node, add, nth_node, stands_as};
 use std::hash::{BuildHasher, BuildHasherDefault, FoldHasher};
 
 // How many entries of an index are looked at for one node.
 const PROBES: usize = 8;
+
+// The place of a node in a store; it is added where the index does not lead to it.
+pub fn intern(nodes: &mut [u64], index: &mut [u64], node: Node) -> u64
+    requires room { Room nodes.old 1 }
+    requires indexed { 0 < length index.old }
+    ensures { Interned nodes.old nodes.new node result }
+{
+    match seek(nodes, index, node) {
+        Ok(place) => place,
+        Err(slot) => {
+            let place = add(nodes, node);
+            index[slot] = place + 1;
+            place
+        }
+    }
+}
+
+// Has an index lead to the nodes that stand.
+pub fn index_all(nodes: &[u64], index: &mut [u64])
+    requires whole { 1 + 5 * count nodes.now ≤ length nodes.now }
+    requires indexed { 0 < length index.old }
+{
+    for i in 0..nodes[0] {
+        if let Err(slot) = seek(nodes, index, nth_node(nodes, i as usize)) {
+            index[slot] = i + 1;
+        }
+    }
+}
+
+// The place of a node that the index leads to; else the entry of the index that is to lead to it.
+fn seek(nodes: &[u64], index: &[u64], node: Node) -> Result<u64, usize>
+    requires whole { 1 + 5 * count nodes.now ≤ length nodes.now }
+    requires indexed { 0 < length index.now }
+    ensures { MatchResult result (λ i. StandsAs nodes.now i node) (λ slot. slot < length index.now) }
+{
+    let hash = BuildHasherDefault::<FoldHasher>::new().hash_one(node);
+    let start = hash as usize % index.len();
+    for k in 0..PROBES {
+        let slot = (start + k) % index.len();
+        let Some(place) = index[slot].checked_sub(1) else {
+            return Err(slot);
+        };
+        if place < nodes[0] && stands_as(nodes, place, node) {
+            return Ok(place);
+        }
+    }
+    Err(start)
+}
 
 impl Cone<'_, '_> {
     // The place of a node; it is added where the index does not lead to it.
@@ -23,40 +74,6 @@ impl Cone<'_, '_> {
         ensures built { Built self.old.nodes.now self.new.nodes.now node result }
         ensures says { cond_at self.new.nodes.now result ≡ node_of node (cond_at self.old.nodes.now) }
     {
-        match self.seek(node) {
-            Ok(place) => place,
-            Err(slot) => {
-                let place = add(self.nodes, node);
-                self.index[slot] = place;
-                place
-            }
-        }
-    }
-
-    // The place of a node that the index leads to; else the entry of the index that is to lead to it.
-    fn seek(&self, node: Node) -> Result<u64, usize>
-        ensures { MatchResult result (λ i. StandsAs self.now.nodes.now i node) (λ slot. slot < length self.now.index.now) }
-    {
-        let hash = BuildHasherDefault::<FoldHasher>::new().hash_one(node);
-        let start = hash as usize % self.index.len();
-        for k in 0..PROBES {
-            let slot = (start + k) % self.index.len();
-            let place = self.index[slot];
-            if place < 2 {
-                return Err(slot);
-            }
-            if self.stands_at(place, node) {
-                return Ok(place);
-            }
-        }
-        Err(start)
-    }
-
-    // Whether a node stands at a place behind the first two.
-    fn stands_at(&self, place: u64, node: Node) -> bool
-        requires behind { 2 ≤ place }
-        ensures { result ≡ true → StandsAs self.now.nodes.now place node }
-    {
-        place < self.nodes[0] && nth_node(self.nodes, place as usize) == node
+        intern(self.nodes, self.index, node)
     }
 }

@@ -41,6 +41,11 @@ mod trying;
 mod words;
 
 pub use building::{Cone, begin};
+pub use checking::whole_lines;
+pub use coning::count_marks;
+pub use folding::renamed;
+pub use interning::{index_all, intern};
+pub use reaching::close;
 pub use rowwise::{decide_row, possible, row_fillings, sure};
 pub use sides::Sides;
 pub use sures::sure_rows;

@@ -2,16 +2,17 @@
 ghost use Rattle.std.specs.Prelude.{◌≡◌, ℕ, ◌+◌, ◌*◌, ◌≤◌, true, ◌&&◌, ◌||◌, List, length, ◌==◌, nat_lt};
 ghost use Rattle.condition.specs.Cond.{has};
 ghost use Rattle.condition.specs.Store.{count};
-ghost use Rattle.decide.specs.Reaching.{places_of, marked, Closed, AllCovered};
+ghost use Rattle.decide.specs.Reaching.{places_of, marked, reached, Closed, AllCovered};
 
 use condition::{Node, nth_node};
 
 // Marks all that the marked ones of the first n nodes reach: of the first n nodes, what a marked one names is marked.
-pub(crate) fn close(nodes: &[u64], n: usize, marks: &mut [bool])
+pub fn close(nodes: &[u64], n: usize, marks: &mut [bool])
     requires stands { (n ≤ count nodes.now) × (1 + 5 * n ≤ length nodes.now) }
     requires fits { n ≤ length marks.old }
     ensures closed { Closed nodes.now n marks.new }
     ensures kept { (i : ℕ) → marked marks.old i ≡ true → marked marks.new i ≡ true }
+    ensures exact { (j : ℕ) → marked marks.new j ≡ reached nodes.now n (marked marks.old) j }
     ensures reached { (ns gs : List ℕ) → AllCovered ns gs nodes.now n marks.old → AllCovered ns gs nodes.now n marks.new }
 {
     for i in (0..n).rev() {
