@@ -1,1 +1,3 @@
 pub mod Learning
+pub mod Tidying
+pub mod Copying

@@ -1,0 +1,48 @@
+-- Conditions tidied in a cone, and copied from there behind the nodes of a store.
+--
+--   ReachedFrom nodes roots ms      what the marked nodes roots reach is marked in ms, and nothing else
+--   Simplified nodes n ms cone ps   each marked one of the first n nodes holds where the cone's node at its place ps does
+--   Copies cone n ms xs ys ps       ys is the store xs with the marked of the first n nodes of the cone added, at the places ps
+--   TidiedAll nodes p nodes₁ ps cs   each node that passes the test p is tidied, at the place that cs gives for its place ps
+use Rattle.std.specs.Prelude.{◌≡◌, ℕ, ◌+◌, ◌<◌, ◌≤◌, Bool, true, List, length, slice_index}
+use Rattle.condition.specs.Cond.{cells_of}
+use Rattle.condition.specs.Store.{count, cond_at, store_fits, Grown}
+use Rattle.evaluate.specs.Filling.{Filling, holds}
+use Rattle.decide.specs.Counting.{counted}
+use Rattle.decide.specs.Folding.{Begun, Tidy, Covered, DrawsAll, PlaceOf}
+use Rattle.decide.specs.Reaching.{marked, reached, Closed, Covers, AllCovered}
+use Rattle.learn.specs.Tidying.{Tidier, reached_count}
+
+pub record ReachedFrom (nodes : List ℕ) (roots ms : List Bool) : Type 0 where
+  pub exact : (j : ℕ) → marked ms j ≡ reached nodes (count nodes) (marked roots) j
+  pub closed : Closed nodes (count nodes) ms
+  pub kept : (j : ℕ) → marked roots j ≡ true → marked ms j ≡ true
+  pub covered : (ns gs : List ℕ) → AllCovered ns gs nodes (count nodes) roots → AllCovered ns gs nodes (count nodes) ms
+
+pub record Simplified (nodes : List ℕ) (n : ℕ) (ms : List Bool) (cone ps : List ℕ) : Type 0 where
+  pub begun : Begun cone
+  pub tidy : Tidy cone
+  pub few : count cone ≤ 2 + counted n (marked ms)
+  pub stand : (i : ℕ) → i < n → marked ms i ≡ true → slice_index ps i < count cone
+  pub value : (i : ℕ) → i < n → marked ms i ≡ true → (v : Filling) → holds v (cond_at cone (slice_index ps i)) ≡ holds v (cond_at nodes i)
+  -- behind always and never each node is the place of a marked one
+  pub onto : (j : ℕ) → 2 ≤ j → j < count cone → PlaceOf n ms ps j
+  pub covered : (ns gs : List ℕ) → DrawsAll nodes n ms ns gs → Covered cone ns gs
+
+pub record Copies (cone : List ℕ) (n : ℕ) (ms : List Bool) (xs ys ps : List ℕ) : Type 0 where
+  pub grown : Grown xs ys
+  pub few : count ys ≤ count xs + counted n (marked ms)
+  pub stand : (i : ℕ) → i < n → marked ms i ≡ true → slice_index ps i < count ys
+  pub same : (i : ℕ) → i < n → marked ms i ≡ true → cond_at ys (slice_index ps i) ≡ cond_at cone i
+
+pub record TidiedAll (nodes : List ℕ) (p : ℕ → Bool) (nodes₁ ps cs : List ℕ) : Type 0 where
+  pub grown : Grown nodes nodes₁
+  pub few : count nodes₁ ≤ count nodes + reached_count nodes p
+  pub store : store_fits nodes₁ ≡ true
+  pub long : length ps ≡ count nodes
+  pub place : (i : ℕ) → i < count nodes → p i ≡ true → slice_index ps i < length cs
+  pub stand : (i : ℕ) → i < count nodes → p i ≡ true → slice_index cs (slice_index ps i) < count nodes₁
+  pub tidier : (i : ℕ) → i < count nodes → p i ≡ true → Tidier (cond_at nodes i) (cond_at nodes₁ (slice_index cs (slice_index ps i)))
+  -- the new conditions name no numbers and gaps but those of the old ones
+  pub covered : (ns gs : List ℕ) → ((i : ℕ) → i < count nodes → p i ≡ true → Covers ns gs (cells_of (cond_at nodes i))) →
+      (i : ℕ) → i < count nodes → p i ≡ true → Covers ns gs (cells_of (cond_at nodes₁ (slice_index cs (slice_index ps i))))
