@@ -5,3 +5,4 @@ pub mod Copied
 pub mod Plain
 pub mod Moved
 pub mod Tidied
+pub mod Lined

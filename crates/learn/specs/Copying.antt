@@ -3,11 +3,13 @@
 --   ReachedFrom nodes roots ms      what the marked nodes roots reach is marked in ms, and nothing else
 --   Simplified nodes n ms cone ps   each marked one of the first n nodes holds where the cone's node at its place ps does
 --   Copies cone n ms xs ys ps       ys is the store xs with the marked of the first n nodes of the cone added, at the places ps
+--   Renamed f n w xs ys             ys has f applied to the nodes of the n lines at the front of xs, w cells wide
 --   TidiedAll nodes p nodes₁ ps cs   each node that passes the test p is tidied, at the place that cs gives for its place ps
-use Rattle.std.specs.Prelude.{◌≡◌, ℕ, ◌+◌, ◌<◌, ◌≤◌, Bool, true, List, length, slice_index}
+use Rattle.std.specs.Prelude.{◌≡◌, ℕ, ◌+◌, ◌*◌, ◌<◌, ◌≤◌, Bool, true, List, length, slice_index}
 use Rattle.condition.specs.Cond.{cells_of}
 use Rattle.condition.specs.Store.{count, cond_at, store_fits, Grown}
 use Rattle.evaluate.specs.Filling.{Filling, holds}
+use Rattle.list.specs.Layout.{line_size}
 use Rattle.decide.specs.Counting.{counted}
 use Rattle.decide.specs.Folding.{Begun, Tidy, Covered, DrawsAll, PlaceOf}
 use Rattle.decide.specs.Reaching.{marked, reached, Closed, Covers, AllCovered}
@@ -46,3 +48,9 @@ pub record TidiedAll (nodes : List ℕ) (p : ℕ → Bool) (nodes₁ ps cs : Lis
   -- the new conditions name no numbers and gaps but those of the old ones
   pub covered : (ns gs : List ℕ) → ((i : ℕ) → i < count nodes → p i ≡ true → Covers ns gs (cells_of (cond_at nodes i))) →
       (i : ℕ) → i < count nodes → p i ≡ true → Covers ns gs (cells_of (cond_at nodes₁ (slice_index cs (slice_index ps i))))
+
+pub record Renamed (f : ℕ → ℕ) (n w : ℕ) (xs ys : List ℕ) : Type 0 where
+  pub long : length ys ≡ length xs
+  pub head : (i : ℕ) → i < n → slice_index ys (i * line_size w) ≡ f (slice_index xs (i * line_size w))
+  pub body : (i t : ℕ) → i < n → t < 2 * w → slice_index ys (i * line_size w + 1 + t) ≡ slice_index xs (i * line_size w + 1 + t)
+  pub past : (k : ℕ) → n * line_size w ≤ k → slice_index ys k ≡ slice_index xs k

@@ -10,6 +10,8 @@
 --   tidy_told nodes node    what is told of a node that is to be tidied: the first number of the list that applies
 --   Tidied nodes node nodes₁ r          the store once the node is tidied, and the place of the tidy one
 --   lines_name n w xs j     whether one of the n lines at the front of xs, w cells wide, names the node j
+--   lines_told nodes answer n w         what is told of the lines of an answer over a store
+--   Lined nodes answer n w              what they have where that is nothing
 --   tidy_answer_told nodes answer n w   what is told of an answer that is to be tidied
 --   TidiedLine l m          the line m has the cells of l, and a tidier condition
 --   TidiedLines ls ms       the lines ms are those of ls, each tidied
@@ -82,13 +84,23 @@ unfoldable pub lines_name : ℕ → ℕ → List ℕ → ℕ → Bool
 lines_name zero w xs j = false
 lines_name (suc n) w xs j = slice_index xs 0 == j || lines_name n w (drop (line_size w) xs) j
 
--- number 2; 3 with place 9 for the lines that lie whole in the slice; 7; and 6 where fewer nodes fit than are reached
-abbrev pub tidy_answer_told : (nodes answer : List ℕ) → ℕ → ℕ → Told
-tidy_answer_told nodes answer n w =
+-- number 2; 3 with place 9 for the lines that lie whole in the slice; and 7
+abbrev pub lines_told : (nodes answer : List ℕ) → ℕ → ℕ → Told
+lines_told nodes answer n w =
     first (store_told nodes)
     (first (unless (lines_named (count nodes) (whole_lines n w answer) w answer) 3 9)
-    (first (unless (nat_le (n * line_size w) (length answer)) 7 (length answer))
-    (room_told nodes (reached_count nodes (lines_name n w answer)))))
+    (unless (nat_le (n * line_size w) (length answer)) 7 (length answer)))
+
+-- what lines and a store have of which nothing is told
+pub record Lined (nodes answer : List ℕ) (n w : ℕ) : Type 0 where
+  pub small : count nodes ≤ 131072
+  pub store : 1 + 5 * count nodes ≤ length nodes
+  pub whole : n * line_size w ≤ length answer
+  pub named : lines_named (count nodes) n w answer ≡ true
+
+-- and 6 where fewer nodes fit than are reached
+abbrev pub tidy_answer_told : (nodes answer : List ℕ) → ℕ → ℕ → Told
+tidy_answer_told nodes answer n w = first (lines_told nodes answer n w) (room_told nodes (reached_count nodes (lines_name n w answer)))
 
 pub record TidiedLine (l m : Line) : Type 0 where
   pub cells : m.cells ≡ l.cells

@@ -16,7 +16,7 @@ use decide::{Cone, begin, close, count_marks, index_all};
 use std::alloc::Global;
 
 // A mark for each node that a store may have.
-type Marks = [bool; MOST_NODES as usize];
+pub(crate) type Marks = [bool; MOST_NODES as usize];
 
 // The place of a condition without constants below other nodes and without comparisons that are settled, which holds where that of a node
 // does. Nodes are only added behind those that stand. A refusal leaves the store as it was; want of memory is told only where no other
@@ -47,14 +47,14 @@ fn mark_one(node: u64) -> Marks
 
 // Where conditions of a store went: the places that they have in a cone, and those that the cone's nodes have in the store.
 #[derive(Drop)]
-struct Moves {
-    places: Vec<u64>,
-    copies: Vec<u64>,
+pub(crate) struct Moves {
+    pub(crate) places: Vec<u64>,
+    pub(crate) copies: Vec<u64>,
 }
 
 impl Moves {
     // Where the condition of a node went.
-    fn place(&self, node: u64) -> u64
+    pub(crate) fn place(&self, node: u64) -> u64
         requires node { node < length self.now.places.items }
         requires place { slice_index self.now.places.items node < length self.now.copies.items }
         ensures { result ≡ slice_index self.now.copies.items (slice_index self.now.places.items node) }
@@ -64,7 +64,7 @@ impl Moves {
 }
 
 // Tidies the marked nodes of a store.
-fn tidy_marked(heap: Global, nodes: &mut [u64], roots: &Marks) -> Result<Moves, Refusal>
+pub(crate) fn tidy_marked(heap: Global, nodes: &mut [u64], roots: &Marks) -> Result<Moves, Refusal>
     requires small { count nodes.old ≤ 131072 }
     requires whole { 1 + 5 * count nodes.old ≤ length nodes.old }
     ensures refusal { MemoryTold (room_told nodes.old (reached_count nodes.old (marked roots.now))) result }
