@@ -6,3 +6,4 @@ pub mod Plain
 pub mod Moved
 pub mod Tidied
 pub mod Lined
+pub mod Leaving

@@ -1,18 +1,20 @@
 -- An answer whose lines name the tidy conditions in the place of their own.
-use Rattle.std.proofs.Common.{◌≡◌, ℕ, zero, suc, ◌+◌, ◌*◌, ◌/◌, ◌<◌, ◌≤◌, Bool, true, false, ◌||◌, eqb, leb, Some, None, ◌≢◌, ◌-◌, List, [], ◌∷◌, length, get_or, set, drop, sym, refl, ap, ◌∙◌, subst, inl, inr, suc-mul, zero-mul, arith, length-drop, get_or-set_other, get_or-set_same}
-use Rattle.std.proofs.lemmas.Bool.{cases_lt, cases_eq, lt-ltb, ltb-true, and_from, or_left, or_right, ne_eqb, leb-true}
+use Rattle.std.proofs.Common.{◌≡◌, ℕ, zero, suc, ◌+◌, ◌*◌, ◌/◌, ◌<◌, ◌≤◌, Bool, true, false, cond as if, ◌||◌, eqb, leb, Some, None, ◌≢◌, ◌-◌, List, [], ◌∷◌, length, get_or, set, drop, sym, refl, ap, ◌∙◌, subst, inl, inr, suc-mul, zero-mul, arith, length-drop, get_or-set_other, get_or-set_same}
+use Rattle.std.proofs.lemmas.Bool.{both_ways, cases_lt, cases_eq, lt-ltb, ltb-true, and_from, or_left, or_right, ne_eqb, leb-true}
 use Rattle.std.proofs.lemmas.List.{get_or-drop, length-set}
 use Rattle.std.proofs.Math.Nat.{le-div_iff_mul-le}
+use Rattle.condition.specs.Cond.{Cond, always, never, equal, not_so, both, either}
 use Rattle.condition.specs.Store.{count, cond_at, store_told, room_told}
 use Rattle.condition.proofs.Lists.{eqb_self}
 use Rattle.condition.proofs.Growing.{grown_cond}
-use Rattle.evaluate.specs.Filling.{Filling}
+use Rattle.evaluate.specs.Filling.{Filling, holds}
 use Rattle.list.specs.Layout.{line_size, cells_in, lines_in, lines_named}
 use Rattle.list.specs.Lists.{Line, filled, stands}
 use Rattle.list.proofs.Reading.{lines_named_at}
 use Rattle.answer.proofs.Steps.{row}
 use Rattle.decide.specs.Reaching.{marked}
 use Rattle.decide.specs.Standing.{whole_lines}
+use Rattle.learn.specs.Dropping.{is_never, without_never, Dropped}
 use Rattle.learn.specs.Copying.{Renamed, TidiedAll}
 use Rattle.learn.specs.Tidying.{Tidier, reached_count, lines_name, lines_told, Lined, tidy_answer_told, TidiedLines, TidiedAnswer}
 
@@ -83,7 +85,7 @@ renamed_tail f n w xs ys r =
       past = λ k l. rw (get_or-drop (line_size w) ys k 0, get_or-drop (line_size w) xs k 0) (r.past (line_size w + k) (omega (arith, m n)));
     }
 
-cells_same : (w : ℕ) (xs ys : List ℕ) → ((t : ℕ) → t < 2 * w → get_or ys t 0 ≡ get_or xs t 0) → cells_in w ys ≡ cells_in w xs
+pub cells_same : (w : ℕ) (xs ys : List ℕ) → ((t : ℕ) → t < 2 * w → get_or ys t 0 ≡ get_or xs t 0) → cells_in w ys ≡ cells_in w xs
 unfolding cells_in
 cells_same zero xs ys h = refl
 cells_same (suc w) xs ys h =
@@ -123,6 +125,25 @@ tidied_filled v [] (m ∷ ms) t = absurd t
 tidied_filled v (l ∷ ls) [] t = absurd t
 tidied_filled v (l ∷ ls) (m ∷ ms) t = rw (t.0.tidier.same v, t.0.cells, tidied_filled v ls ms t.1) refl
 
+-- lines under never have no rows
+never_holds : (v : Filling) (c : Cond) → is_never c ≡ true → holds v c ≡ false
+unfolding holds
+never_holds v always h = absurd (both_ways false refl h)
+never_holds v never h = refl
+never_holds v (equal a b) h = absurd (both_ways false refl h)
+never_holds v (not_so c) h = absurd (both_ways false refl h)
+never_holds v (both c d) h = absurd (both_ways false refl h)
+never_holds v (either c d) h = absurd (both_ways false refl h)
+
+pub without_filled : (v : Filling) (ls : List Line) → filled v (without_never ls) ≡ filled v ls
+unfolding filled without_never
+without_filled v [] = refl
+without_filled v (l ∷ ls) = go (is_never l.if_so) refl (without_filled v ls)
+  where
+    go : (b : Bool) → is_never l.if_so ≡ b → filled v (without_never ls) ≡ filled v ls → filled v (if b (without_never ls) (l ∷ without_never ls)) ≡ filled v (l ∷ ls)
+    go true e ih = rw (never_holds v l.if_so e) ih
+    go false e ih = rw ih refl
+
 pub mark_more : (ms : List Bool) (at j : ℕ) → at < length ms → marked (set ms at true) j ≡ (marked ms j || eqb at j)
 mark_more ms at j l = elim (cases_eq j at) [
   | inl e ↦ rw (e, get_or-set_same ms at true false l, eqb_self at) (sym (or_right (marked ms at) true refl))
@@ -152,19 +173,28 @@ module _ (nodes answer : List ℕ) (n w : ℕ) (l : Lined nodes answer n w) wher
   pub line_stands : (i : ℕ) → i < n → get_or answer (i * line_size w) 0 < count nodes
   line_stands i b = ltb-true (get_or answer (i * line_size w) 0) (count nodes) (lines_named_at (count nodes) n w i answer b l.named)
 
+  -- the lines that were renamed name what stands
+  pub renamed_named : (nodes₁ ps cs answer₁ : List ℕ) → TidiedAll nodes (lines_name n w answer) nodes₁ ps cs → Renamed (λ j. get_or cs (get_or ps j 0) 0) n w answer answer₁ →
+      lines_named (count nodes₁) n w answer₁ ≡ true
+  renamed_named nodes₁ ps cs answer₁ t r =
+      lines_named_from (count nodes₁) n w answer₁ (λ i b. rw (r.head i b) (t.stand (get_or answer (i * line_size w) 0) (line_stands i b) (lines_name_at n w i answer b)))
+
   pub answer_tidied : (nodes₁ ps cs answer₁ : List ℕ) → TidiedAll nodes (lines_name n w answer) nodes₁ ps cs → Renamed (λ j. get_or cs (get_or ps j 0) 0) n w answer answer₁ →
-      TidiedAnswer nodes answer n w nodes₁ answer₁
-  answer_tidied nodes₁ ps cs answer₁ t r =
+      (m : ℕ) (answer₂ : List ℕ) → Dropped nodes₁ n w answer₁ m answer₂ → TidiedAnswer nodes answer n w m nodes₁ answer₂
+  answer_tidied nodes₁ ps cs answer₁ t r m answer₂ d =
       let f : ℕ → ℕ = λ j. get_or cs (get_or ps j 0) 0 in
       let named : (i : ℕ) → i < n → lines_name n w answer (get_or answer (i * line_size w) 0) ≡ true = λ i b. lines_name_at n w i answer b in
       let lines : TidiedLines (lines_in nodes n w answer) (lines_in nodes₁ n w answer₁) =
       lines_tidied nodes nodes₁ f n w answer answer₁ r (λ i b. t.tidier (get_or answer (i * line_size w) 0) (line_stands i b) (named i b)) in
       record {
-        lines = lines;
-        named = lines_named_from (count nodes₁) n w answer₁ (λ i b. rw (r.head i b) (t.stand (get_or answer (i * line_size w) 0) (line_stands i b) (named i b)));
-        long = r.long;
-        past = r.past;
-        answers = λ what ts q a v h row. ap (stands row) (tidied_filled v (lines_in nodes n w answer) (lines_in nodes₁ n w answer₁) lines) ∙ a v h row;
+        lines = (lines_in nodes₁ n w answer₁, lines, d.lines);
+        left = d.few;
+        named = lines_named_from (count nodes₁) m w answer₂ (λ j b.
+            let k = d.heads j b in rw k.2 (ltb-true _ (count nodes₁) (lines_named_at (count nodes₁) n w k.0 answer₁ k.1 (renamed_named nodes₁ ps cs answer₁ t r))));
+        long = d.long ∙ r.long;
+        past = λ k l. d.past k l ∙ r.past k l;
+        answers = λ what ts q a v h row.
+            ap (stands row) (ap (filled v) d.lines ∙ (without_filled v (lines_in nodes₁ n w answer₁) ∙ tidied_filled v (lines_in nodes n w answer) (lines_in nodes₁ n w answer₁) lines)) ∙ a v h row;
         grown = t.grown;
         few = t.few;
         store = t.store;

@@ -1,3 +1,4 @@
 pub mod Learning
+pub mod Dropping
 pub mod Tidying
 pub mod Copying

@@ -15,7 +15,7 @@
 --   tidy_answer_told nodes answer n w   what is told of an answer that is to be tidied
 --   TidiedLine l m          the line m has the cells of l, and a tidier condition
 --   TidiedLines ls ms       the lines ms are those of ls, each tidied
---   TidiedAnswer nodes answer n w nodes₁ answer₁   the store and an answer once the answer is tidied
+--   TidiedAnswer nodes answer n w m nodes₁ answer₁   the store and an answer once the answer is tidied, with the m lines that are left
 use Rattle.std.specs.Prelude.{◌≡◌, ℕ, zero, suc, ◌+◌, ◌*◌, ◌<◌, ◌≤◌, Bool, true, false, ◌||◌, ◌⊎◌, List, [], ◌∷◌, length, drop, Some, None, Result, MatchResult, ◌==◌, nat_le, nat_lt, slice_index}
 use Rattle.condition.specs.Cond.{Cell, known, gap, Cond, always, never, equal, not_so, both, either, cells_of, numbers, gaps}
 use Rattle.condition.specs.Refusals.{Told, told, first, unless}
@@ -30,6 +30,7 @@ use Rattle.answer.specs.Promise.{Answers}
 use Rattle.decide.specs.Counting.{counted}
 use Rattle.decide.specs.Reaching.{reached, Covers}
 use Rattle.decide.specs.Standing.{whole_lines}
+use Rattle.learn.specs.Dropping.{without_never}
 
 abbrev pub PlainPair : Cell → Cell → Type 0
 PlainPair (known m) b = ⊥
@@ -112,15 +113,16 @@ TidiedLines [] (m ∷ ms) = ⊥
 TidiedLines (l ∷ ls) [] = ⊥
 TidiedLines (l ∷ ls) (m ∷ ms) = TidiedLine l m × TidiedLines ls ms
 
-pub record TidiedAnswer (nodes answer : List ℕ) (n w : ℕ) (nodes₁ answer₁ : List ℕ) : Type 0 where
-  -- each line has its cells and a tidier condition
-  pub lines : TidiedLines (lines_in nodes n w answer) (lines_in nodes₁ n w answer₁)
-  pub named : lines_named (count nodes₁) n w answer₁ ≡ true
-  -- what lies behind the lines is as it was
+pub record TidiedAnswer (nodes answer : List ℕ) (n w m : ℕ) (nodes₁ answer₁ : List ℕ) : Type 0 where
+  -- each line has its cells and a tidier condition, and then those under never are left out
+  pub lines : (ls : List Line) × TidiedLines (lines_in nodes n w answer) ls × (lines_in nodes₁ m w answer₁ ≡ without_never ls)
+  pub left : m ≤ n
+  pub named : lines_named (count nodes₁) m w answer₁ ≡ true
+  -- what lay behind the lines is as it was
   pub long : length answer₁ ≡ length answer
   pub past : (k : ℕ) → n * line_size w ≤ k → slice_index answer₁ k ≡ slice_index answer k
   -- what it answered it answers
-  pub answers : (what : Cond) (ts : List (List Line)) (q : Query) → Answers what ts q (lines_in nodes n w answer) → Answers what ts q (lines_in nodes₁ n w answer₁)
+  pub answers : (what : Cond) (ts : List (List Line)) (q : Query) → Answers what ts q (lines_in nodes n w answer) → Answers what ts q (lines_in nodes₁ m w answer₁)
   -- nodes were added behind those that stood, no more than are reached
   pub grown : Grown nodes nodes₁
   pub few : count nodes₁ ≤ count nodes + reached_count nodes (lines_name n w answer)

@@ -4,6 +4,7 @@
 ghost use Rattle.learn.specs.Learning.{WrittenOver};
 
 mod copying;
+mod dropping;
 mod learning;
 mod tidying;
 mod tidying_lines;

@@ -1,36 +1,38 @@
 // Tidying the conditions of an answer's lines.
-ghost use Rattle.std.specs.Prelude.{◌≡◌, ℕ, ◌*◌, ◌<◌, ◌≤◌, true, length, slice_index, OnErr, OnOk};
+ghost use Rattle.std.specs.Prelude.{◌≡◌, ℕ, ◌*◌, ◌<◌, ◌≤◌, true, length, slice_index, IfOk, OnErr, OnOk};
 ghost use Rattle.condition.specs.Refusals.{outcome};
 ghost use Rattle.list.specs.Layout.{line_size, lines_named};
 ghost use Rattle.decide.specs.Reaching.{marked};
 ghost use Rattle.learn.specs.Copying.{Renamed};
 ghost use Rattle.learn.specs.Tidying.{MemoryTold, lines_name, lines_told, Lined, tidy_answer_told, TidiedAnswer};
 
+use crate::dropping::drop_never;
 use crate::tidying::{Marks, Moves, tidy_marked};
 use condition::{MOST_NODES, Refusal, store_count};
 use decide::whole_lines;
 use list::{any_lines_named, line_size};
 use std::alloc::Global;
 
-// Puts tidy conditions in the place of those of an answer's lines, as many as are named and so many cells wide; nodes are only added behind
-// those that stand, and of the answer only the nodes of the lines change. A refusal leaves both slices as they were; want of memory is told
-// only where no other refusal applies.
+// Puts tidy conditions in the place of those of an answer's lines, as many as are named and so many cells wide; leaves out the lines whose
+// condition has become never, the others moving up in order, and tells how many are left. Nodes are only added behind those that stand. A
+// refusal leaves both slices as they were; want of memory is told only where no other refusal applies.
 pub fn tidy_answer(
     heap: Global,
     nodes: &mut [u64],
     answer: &mut [u64],
     lines: u64,
     width: u64,
-) -> Result<(), Refusal>
+) -> Result<u64, Refusal>
     ensures refusal { MemoryTold (tidy_answer_told nodes.old answer.old lines width) result }
     ensures kept { OnErr result ((nodes.new ≡ nodes.old) × (answer.new ≡ answer.old)) }
-    ensures tidied { OnOk result (TidiedAnswer nodes.old answer.old lines width nodes.new answer.new) }
+    ensures tidied { IfOk result (λ m. TidiedAnswer nodes.old answer.old lines width m nodes.new answer.new) }
 {
     check_lines(nodes, answer, lines, width)?;
     let roots = mark_lines(answer, lines as usize, width as usize);
     let moves = tidy_marked(heap, nodes, &roots)?;
     write_places(answer, lines as usize, width as usize, &moves);
-    Ok(())
+    let left = drop_never(nodes, answer, lines as usize, width as usize);
+    Ok(left as u64)
 }
 
 // Whether an answer has n lines, w cells wide, over a store, or why not.
