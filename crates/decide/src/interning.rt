@@ -14,7 +14,7 @@ use condition::{Node, add, nth_node, stands_as};
 use std::hash::{BuildHasher, BuildHasherDefault, FoldHasher};
 
 // How many entries of an index are looked at for one node.
-const PROBES: usize = 8;
+const PROBES: usize = 64;
 
 // The place of a node in a store; it is added where the index does not lead to it.
 pub fn intern(nodes: &mut [u64], index: &mut [u64], node: Node) -> u64

@@ -1,6 +1,7 @@
 pub mod Fitting
 pub mod Staying
 pub mod Writing
+pub mod Turned
 pub mod Copied
 pub mod Plain
 pub mod Moved

@@ -1,22 +1,22 @@
 -- What was folded into a cone and copied from there is tidied.
-use Rattle.std.proofs.Common.{◌≡◌, ℕ, zero, suc, ◌+◌, ◌<◌, ◌≤◌, Bool, true, false, cond, List, replicate, length, get_or, set, None, sym, refl, ap, ◌∙◌, subst, inl, inr, arith, get_or-set_other, get_or-set_same}
+use Rattle.std.proofs.Common.{◌≡◌, ℕ, zero, suc, ◌+◌, ◌<◌, ◌≤◌, Bool, true, false, cond, List, replicate, length, get_or, set, None, sym, refl, ◌∙◌, subst, inl, inr, arith, get_or-set_other, get_or-set_same}
 use Rattle.std.proofs.lemmas.Bool.{lt-ltb, le-leb, cases_eq, eqb-true, ne_eqb}
 use Rattle.std.proofs.lemmas.List.{length-replicate}
-use Rattle.condition.specs.Cond.{Cond, cells_of, numbers_in, gaps_in}
+use Rattle.condition.specs.Cond.{cells_of, numbers_in, gaps_in}
 use Rattle.condition.specs.Store.{count, cond_at, store_told, room, room_told}
 use Rattle.condition.proofs.Lists.{eqb_self}
 use Rattle.condition.proofs.Growing.{grown_cond}
 use Rattle.condition.proofs.Standing.{fits_from}
-use Rattle.evaluate.specs.Filling.{holds}
 use Rattle.decide.specs.Counting.{counted}
 use Rattle.decide.specs.Reaching.{marked, reached, Covers}
 use Rattle.decide.proofs.Counted.{counted_same}
 use Rattle.decide.proofs.Coverage.{covers_self}
 use Rattle.decide.proofs.Drawn.{draws_all}
-use Rattle.learn.specs.Copying.{ReachedFrom, Simplified, Copies, TidiedAll}
-use Rattle.learn.specs.Tidying.{TidyCond, reached_count, one, tidy_told, Tidied}
+use Rattle.learn.specs.Copying.{ReachedFrom, Simplified, Turned, Copies, TidiedAll}
+use Rattle.learn.specs.Tidying.{reached_count, one, tidy_told, Tidied}
 use Rattle.learn.proofs.Moved.{cleared}
 use Rattle.learn.proofs.Plain.{cone_tidy}
+use Rattle.learn.proofs.Turned.{turned_tidy}
 
 pub counted_most : (n : ℕ) (p : ℕ → Bool) → counted n p ≤ n
 unfolding counted
@@ -46,8 +46,8 @@ module _ (nodes : List ℕ) (roots ms : List Bool) (from : ReachedFrom nodes roo
       stands : get_or ps i 0 < count cone
       stands = s.stand i l (from.kept i m)
 
-      same : cond_at nodes₁ (get_or cs (get_or ps i 0) 0) ≡ cond_at cone (get_or ps i 0)
-      same = c.same (get_or ps i 0) stands (placed i l m)
+      turned : Turned (cond_at cone (get_or ps i 0)) (cond_at nodes₁ (get_or cs (get_or ps i 0) 0))
+      turned = c.turned (get_or ps i 0) stands (placed i l m)
 
     pub tidied_all : TidiedAll nodes (marked roots) nodes₁ ps cs
     tidied_all = record {
@@ -58,11 +58,11 @@ module _ (nodes : List ℕ) (roots ms : List Bool) (from : ReachedFrom nodes roo
       place = λ i l m. omega (arith, stands i l m, wide);
       stand = λ i l m. c.stand (get_or ps i 0) (stands i l m) (placed i l m);
       tidier = λ i l m. record {
-        same = λ v. ap (holds v) (same i l m) ∙ s.value i l (from.kept i m) v;
-        tidy = subst TidyCond (sym (same i l m)) (cone_tidy cone s.begun s.tidy (get_or ps i 0) (stands i l m));
+        same = λ v. (turned i l m).same v ∙ s.value i l (from.kept i m) v;
+        tidy = turned_tidy (cond_at cone (get_or ps i 0)) (cond_at nodes₁ (get_or cs (get_or ps i 0) 0)) (turned i l m) (cone_tidy cone s.begun s.tidy (get_or ps i 0) (stands i l m));
       };
-      covered = λ ns gs h i l m. subst (λ (d : Cond). Covers ns gs (cells_of d)) (sym (same i l m))
-          (s.covered ns gs (draws_all ns gs nodes (count nodes) ms (omega arith) (from.covered ns gs h)) (get_or ps i 0) (stands i l m));
+      covered = λ ns gs h i l m.
+          (turned i l m).covered ns gs (s.covered ns gs (draws_all ns gs nodes (count nodes) ms (omega arith) (from.covered ns gs h)) (get_or ps i 0) (stands i l m));
     }
 
 -- tests that say the same are one

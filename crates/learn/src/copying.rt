@@ -5,9 +5,9 @@ ghost use Rattle.condition.specs.Nodes.{behind, decoded};
 ghost use Rattle.decide.specs.Counting.{counted};
 ghost use Rattle.decide.specs.Folding.{Room};
 ghost use Rattle.decide.specs.Reaching.{marked, Closed};
-ghost use Rattle.learn.specs.Copying.{Copies};
+ghost use Rattle.learn.specs.Copying.{sorted, Copies};
 
-use condition::nth_node;
+use condition::{Node, nth_node};
 use decide::{intern, renamed};
 
 // Copies each marked one of the first n nodes of a cone, and writes down its place in the store; a node to which the index leads is not
@@ -31,7 +31,19 @@ pub(crate) fn copy(
 {
     for i in 0..n {
         if marks[i] {
-            places[i] = intern(nodes, index, renamed(nth_node(cone, i), places, i));
+            let node = sorted(renamed(nth_node(cone, i), places, i));
+            places[i] = intern(nodes, index, node);
         }
+    }
+}
+
+// A node, the smaller place first where it joins two conditions: so what is tidy already is found as it stands.
+fn sorted(node: Node) -> Node
+    ensures { result ≡ sorted node }
+{
+    match node {
+        Node::Both(a, b) => Node::Both(a.min(b), a.max(b)),
+        Node::Either(a, b) => Node::Either(a.min(b), a.max(b)),
+        _ => node,
     }
 }

@@ -82,7 +82,7 @@ pub(crate) fn tidy_marked(heap: Global, nodes: &mut [u64], roots: &Marks) -> Res
     let mut cone = vec![in heap; 0u64; 11 + 5 * reached]?;
     let mut places = vec![in heap; 0u64; count]?;
     let mut copies = vec![in heap; 0u64; 2 + reached]?;
-    let mut index = vec![in heap; 0u64; 2 * (count + reached) + 11]?;
+    let mut index = vec![in heap; 0u64; 4 * (count + reached) + 11]?;
     move_marked(
         roots,
         &mut marks,
