@@ -102,9 +102,12 @@ five_read (Not a) m = refl
 five_read (Both a b) m = refl
 five_read (Either a b) m = refl
 
--- a node that was added is read back, unless it compares a gap above 63
-pub added_decoded : (xs ys : List ℕ) (n : Node) (i : ℕ) → Added xs ys n i → Named n → decoded ys i ≡ n
-added_decoded xs ys n i a m =
-    let h = a.numbers in
-    let z : get_or ys (1 + 5 * i) 0 ≡ get_or (five n) 0 0 = ap (λ t. get_or ys t 0) (sym (add-zero (1 + 5 * i))) ∙ h 0 (lit< tt) in
+-- a node whose five numbers stand at place i is read there, unless it compares a gap above 63
+pub five_decoded : (xs : List ℕ) (i : ℕ) (n : Node) → ((k : ℕ) → k < 5 → get_or xs (1 + 5 * i + k) 0 ≡ get_or (five n) k 0) → Named n → decoded xs i ≡ n
+five_decoded xs i n h m =
+    let z : get_or xs (1 + 5 * i) 0 ≡ get_or (five n) 0 0 = ap (λ t. get_or xs t 0) (sym (add-zero (1 + 5 * i))) ∙ h 0 (lit< tt) in
     rw (z, h 1 (lit< tt), h 2 (lit< tt), h 3 (lit< tt), h 4 (lit< tt)) (five_read n m)
+
+-- so is a node that was added
+pub added_decoded : (xs ys : List ℕ) (n : Node) (i : ℕ) → Added xs ys n i → Named n → decoded ys i ≡ n
+added_decoded xs ys n i a = five_decoded ys i n a.numbers

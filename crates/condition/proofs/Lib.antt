@@ -6,3 +6,4 @@ pub mod Growing
 pub mod Decoding
 pub mod Standing
 pub mod Added
+pub mod Replaced

@@ -39,7 +39,7 @@ pub fn append(nodes: &mut [u64], node: Node) -> Result<u64, Refusal>
 }
 
 // Writes a node at the front of a part of the store, and nothing behind it.
-fn write(front: &mut [u64], node: Node)
+pub(crate) fn write(front: &mut [u64], node: Node)
     requires { 5 ≤ length front.old }
     ensures new { (k : ℕ) → k < 5 → slice_index front.new k ≡ slice_index (five node) k }
     ensures past { (k : ℕ) → 5 ≤ k → slice_index front.new k ≡ slice_index front.old k }

@@ -14,12 +14,14 @@ mod adding;
 mod display;
 mod finding;
 mod reading;
+mod replacing;
 mod shown;
 mod store;
 
 pub use adding::{add, append};
 pub use finding::{find, stands_as};
 pub use reading::{cell_at, node_at, nth_node};
+pub use replacing::{set_cell, set_node};
 pub use shown::Condition;
 pub use store::{MOST_NODES, read_node, room, store_count};
 
