@@ -1,5 +1,4 @@
--- Learning a condition, and writing a learned number over a gap. The statements are proved: each is the contract of a function of
--- this crate.
+-- Learning: what is known grows by the condition of a node.
 --
 --   learned lists nodes new      what is known once node new is learned: what was known, and the condition of that node
 --   alone nodes new              the condition of node new as the only line of an answer without columns
@@ -10,19 +9,16 @@
 --   Unchanged lists nodes lists₁ nodes₁     the lists and all that stood mean what they meant
 --   Narrowed what more             where more is known than what, answers stay answers, sure rows sure, and impossible rows impossible
 --   Learned lists nodes new lists₁ nodes₁   the lists and the store once node new is learned
---   write_cell k n a     the cell a with the number n for the gap k
---   write_cond, write_lines, write_lists     the same in a condition, in lines, in lists
-use Rattle.std.specs.Prelude.{◌≡◌, ◌≢◌, ℕ, ◌+◌, ◌*◌, ◌<◌, ◌≤◌, true, false, cond as if, ◌⊎◌, List, [], ◌∷◌, length, Some, None, Result, MatchResult, ◌==◌, nat_lt, slice_index}
-use Rattle.condition.specs.Cond.{Cell, known, gap, Cond, both, each_cell}
+use Rattle.std.specs.Prelude.{◌≡◌, ◌≢◌, ℕ, ◌+◌, ◌*◌, ◌<◌, ◌≤◌, true, false, ◌⊎◌, List, [], ◌∷◌, length, Some, None, Result, MatchResult, nat_lt, slice_index}
+use Rattle.condition.specs.Cond.{Cond, both}
 use Rattle.condition.specs.Refusals.{Told, told, first, unless}
 use Rattle.condition.specs.Store.{count, cond_at, store_fits, room_told, Grown}
 use Rattle.condition.specs.declared.Refusal.{Refusal}
 use Rattle.condition.specs.declared.Refusal.TheVariants.{WouldNotFit, NoMemory}
 use Rattle.evaluate.specs.Filling.{Filling, holds}
-use Rattle.list.specs.Lists.{Line, Row, filled, Alike}
+use Rattle.list.specs.Lists.{Line, Row}
 use Rattle.list.specs.Layout.{lines_in, known_in, all_in, lines_named, named_told, check_told}
 use Rattle.query.specs.Ask.{Query}
-use Rattle.answer.specs.Answer.{answer}
 use Rattle.answer.specs.Promise.{Answers, Sure, Possible}
 use Rattle.decide.specs.Standing.{nine_told}
 
@@ -92,28 +88,3 @@ pub record Learnable (lists nodes : List ℕ) (new : ℕ) : Type 0 where
   pub few : count nodes + 1 ≤ 131072
   pub room : 6 + 5 * count nodes ≤ length nodes
   pub fits : SomeFits (learned lists nodes new)
-
-abbrev pub write_cell : ℕ → ℕ → Cell → Cell
-write_cell k n (known m) = known m
-write_cell k n (gap j) = if (j == k) (known n) (gap j)
-
-unfoldable pub write_cells : ℕ → ℕ → List Cell → List Cell
-write_cells k n [] = []
-write_cells k n (c ∷ cs) = write_cell k n c ∷ write_cells k n cs
-
-abbrev pub write_cond : ℕ → ℕ → Cond → Cond
-write_cond k n c = each_cell (write_cell k n) c
-
-unfoldable pub write_lines : ℕ → ℕ → List Line → List Line
-write_lines k n [] = []
-write_lines k n (l ∷ ls) = record { cells = write_cells k n l.cells; if_so = write_cond k n l.if_so } ∷ write_lines k n ls
-
-unfoldable pub write_lists : ℕ → ℕ → List (List Line) → List (List Line)
-write_lists k n [] = []
-write_lists k n (t ∷ ts) = write_lines k n t ∷ write_lists k n ts
-
--- a gap whose number was learned may be written over in the lists before asking, or in the answer: the rows are the same
-abbrev pub WrittenOver : Type 0
-WrittenOver =
-    (ts : List (List Line)) (q : Query) (k n : ℕ) (v : Filling) → v k ≡ n →
-    Alike (filled v (answer q (write_lists k n ts))) (filled v (write_lines k n (answer q ts)))

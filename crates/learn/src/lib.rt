@@ -1,7 +1,7 @@
 // Learning: what is known grows.
 #![tactic(auto)]
 
-ghost use Rattle.learn.specs.Learning.{WrittenOver};
+ghost use Rattle.learn.specs.Over.{WrittenOver, OverHolds, OverAnswers, OverLearned, OverNarrowed};
 
 mod copying;
 mod dropping;
@@ -13,7 +13,24 @@ pub use learning::learn;
 pub use tidying::tidy;
 pub use tidying_lines::tidy_answer;
 
-// A learned number may be written over its gap before asking or after: see specs/Learning.antt.
+// Theorems about writing a learned number over its gap: see specs/Over.antt.
+
 pub fn written_over()
     ensures { WrittenOver }
+{}
+
+pub fn over_holds()
+    ensures { OverHolds }
+{}
+
+pub fn over_answers()
+    ensures { OverAnswers }
+{}
+
+pub fn over_learned()
+    ensures { OverLearned }
+{}
+
+pub fn over_narrowed()
+    ensures { OverNarrowed }
 {}
