@@ -1,3 +1,4 @@
+pub mod Writing
 pub mod Fitting
 pub mod Staying
 pub mod Writing
@@ -8,3 +9,5 @@ pub mod Moved
 pub mod Tidied
 pub mod Lined
 pub mod Leaving
+pub mod Steps
+pub mod Meaning

@@ -95,10 +95,14 @@ over_answers what k n ts q out a = (
 
 pub over_learned : OverLearned
 over_learned what k n ts q r = (
-  (λ s v h. let p = learned_parts what k n v h in ap (stands r) (sym (asked_over v k n p.1 ts q)) ∙ s v (over_both what k n v p.0 p.1),
-  λ s v h. let p = over_parts what k n v h in ap (stands r) (asked_over v k n p.1 ts q) ∙ s v (learned_both what k n v p.0 p.1)),
-  (λ s. let p = over_parts what k n s.0 s.1 in (s.0, learned_both what k n s.0 p.0 p.1, ap (stands r) (sym (asked_over s.0 k n p.1 ts q)) ∙ s.2),
-  λ s. let p = learned_parts what k n s.0 s.1 in (s.0, over_both what k n s.0 p.0 p.1, ap (stands r) (asked_over s.0 k n p.1 ts q) ∙ s.2)),
+  (
+    λ s v h. let p = learned_parts what k n v h in ap (stands r) (sym (asked_over v k n p.1 ts q)) ∙ s v (over_both what k n v p.0 p.1),
+    λ s v h. let p = over_parts what k n v h in ap (stands r) (asked_over v k n p.1 ts q) ∙ s v (learned_both what k n v p.0 p.1),
+  ),
+  (
+    λ s. let p = over_parts what k n s.0 s.1 in (s.0, learned_both what k n s.0 p.0 p.1, ap (stands r) (sym (asked_over s.0 k n p.1 ts q)) ∙ s.2),
+    λ s. let p = learned_parts what k n s.0 s.1 in (s.0, over_both what k n s.0 p.0 p.1, ap (stands r) (asked_over s.0 k n p.1 ts q) ∙ s.2),
+  ),
 )
 
 pub over_narrowed : OverNarrowed

@@ -7,7 +7,7 @@
 --   over_lists k n c at xs       in those of c lists
 --   over_node k n m              in the cells of the node m
 --   OverNodes k n c xs ys        ys is xs with n over k in the first c nodes
-use Rattle.std.specs.Prelude.{◌≡◌, ℕ, zero, suc, ◌+◌, ◌*◌, ◌<◌, ◌≤◌, Bool, true, false, cond as if, List, ◌==◌, slice_index, slice_set, drop}
+use Rattle.std.specs.Prelude.{◌≡◌, ℕ, zero, suc, ◌+◌, ◌*◌, ◌<◌, ◌≤◌, Bool, false, cond as if, List, ◌==◌, slice_index, slice_set, drop}
 use Rattle.condition.specs.Cond as conditions
 use Rattle.condition.specs.Store.{cell_in, count}
 use Rattle.condition.specs.Nodes.{decoded}

@@ -6,10 +6,13 @@ ghost use Rattle.learn.specs.Over.{WrittenOver, OverHolds, OverAnswers, OverLear
 mod copying;
 mod dropping;
 mod learning;
+mod over;
+mod places;
 mod tidying;
 mod tidying_lines;
 
 pub use learning::learn;
+pub use over::write_over_answer;
 pub use tidying::tidy;
 pub use tidying_lines::tidy_answer;
 
