@@ -11,3 +11,5 @@ pub mod Lined
 pub mod Leaving
 pub mod Steps
 pub mod Meaning
+pub mod Steps
+pub mod Nodes
