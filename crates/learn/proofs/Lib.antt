@@ -13,3 +13,4 @@ pub mod Steps
 pub mod Meaning
 pub mod Steps
 pub mod Nodes
+pub mod Lists

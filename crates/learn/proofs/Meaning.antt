@@ -100,14 +100,14 @@ module _ (k n : ℕ) where
       rw (a, b, drop-drop 2 at ys) (both_true (cell_fit k n at xs (omega arith) f) (cells_fits w (at + 2) zs (omega (arith, cell_long k n at xs)) r))
 
 -- cells are read from their own numbers
-cells_same : (w : ℕ) (xs ys : List ℕ) → ((p : ℕ) → p < 2 * w → get_or ys p 0 ≡ get_or xs p 0) → cells_in w ys ≡ cells_in w xs
+pub cells_same : (w : ℕ) (xs ys : List ℕ) → ((p : ℕ) → p < 2 * w → get_or ys p 0 ≡ get_or xs p 0) → cells_in w ys ≡ cells_in w xs
 unfolding cells_in
 cells_same zero xs ys h = refl
 cells_same (suc w) xs ys h =
     let r = cells_same w (drop 2 xs) (drop 2 ys) (λ p l. get_or-drop 2 ys p 0 ∙ (h (2 + p) (omega arith) ∙ sym (get_or-drop 2 xs p 0))) in
     rw (h 0 (omega arith), h 1 (omega arith), r) refl
 
-fits_same : (w : ℕ) (xs ys : List ℕ) → ((p : ℕ) → p < 2 * w → get_or ys p 0 ≡ get_or xs p 0) → cells_fit w ys ≡ cells_fit w xs
+pub fits_same : (w : ℕ) (xs ys : List ℕ) → ((p : ℕ) → p < 2 * w → get_or ys p 0 ≡ get_or xs p 0) → cells_fit w ys ≡ cells_fit w xs
 unfolding cells_fit
 fits_same zero xs ys h = refl
 fits_same (suc w) xs ys h =
