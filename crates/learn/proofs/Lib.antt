@@ -14,3 +14,5 @@ pub mod Meaning
 pub mod Steps
 pub mod Nodes
 pub mod Lists
+pub mod Numbering
+pub mod Overwritten

@@ -1,11 +1,10 @@
 -- What lists mean once a number is written over a gap in their cells and in the store's conditions.
-use Rattle.std.proofs.Common.{◌≡◌, ℕ, zero, suc, ◌+◌, ◌-◌, ◌*◌, ◌<◌, ◌≤◌, Bool, true, ◌&&◌, ltb, leb, List, [], ◌∷◌, length, get_or, drop, refl, sym, ap, ◌∙◌, arith, suc-mul, add-zero, length-drop}
+use Rattle.std.proofs.Common.{◌≡◌, ℕ, zero, suc, ◌+◌, ◌-◌, ◌*◌, ◌<◌, ◌≤◌, Bool, true, ltb, List, length, get_or, drop, refl, sym, ap, ◌∙◌, arith, suc-mul, length-drop}
 use Rattle.std.proofs.lemmas.List.{get_or-drop, drop-drop}
 use Rattle.std.proofs.lemmas.Bool.{and_parts, ltb-true, lt-ltb}
 use Rattle.std.specs.Cmp.Derive.{both_true}
 use Rattle.condition.specs.Store.{count, cond_at}
-use Rattle.list.specs.Lists.{Line}
-use Rattle.list.specs.Layout.{line_size, list_size, lines_at, columns_at, cells_in, lines_in, lists_in, cells_fit, lines_fit, list_fits, Fits, lines_named, list_named, passing}
+use Rattle.list.specs.Layout.{line_size, list_size, lines_at, columns_at, lines_in, lists_in, lines_fit, list_fits, Fits, lines_named, list_named, passing}
 use Rattle.list.proofs.Fitting.{fits, pass_parts}
 use Rattle.learn.specs.Over.{write_cond, write_ifs, write_columns, write_lists}
 use Rattle.learn.specs.Places.{over_lines, over_lists}

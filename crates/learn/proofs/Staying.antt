@@ -35,10 +35,10 @@ narrowed what more = record {
 
 -- the node of what is known is another, and the lists are those that they were
 module _ (lists : List ℕ) (p : ℕ) where
-  first_same : get_or (set lists 1 p) 0 0 ≡ get_or lists 0 0
+  pub first_same : get_or (set lists 1 p) 0 0 ≡ get_or lists 0 0
   first_same = get_or-set_other lists 1 0 p 0 (λ e. omega arith)
 
-  all_same : (ns : List ℕ) → all_in ns (set lists 1 p) ≡ all_in ns lists
+  pub all_same : (ns : List ℕ) → all_in ns (set lists 1 p) ≡ all_in ns lists
   all_same ns = rw (first_same, drop-set-lt 2 lists 1 p (omega arith)) refl
 
 pub learned_leaves : (lists ns : List ℕ) (new p : ℕ) (ns₁ : List ℕ) → Learnable lists ns new → Grown ns ns₁ → p ≡ count ns → count ns₁ ≡ p + 1 → cond_at ns₁ p ≡ learned lists ns new →

@@ -62,7 +62,7 @@ over_parts what k n v h =
     let e : v k ≡ n = eqb-true (v k) n (sym (holds_number v k n) ∙ p.1) in
     (sym (holds_write v k n e what) ∙ p.0, e)
 
-learned_parts : (what : Cond) (k n : ℕ) (v : Filling) → holds v (both what (is_number k n)) ≡ true → (holds v what ≡ true) × (v k ≡ n)
+pub learned_parts : (what : Cond) (k n : ℕ) (v : Filling) → holds v (both what (is_number k n)) ≡ true → (holds v what ≡ true) × (v k ≡ n)
 learned_parts what k n v h =
     let p = and_parts (holds v what) (holds v (is_number k n)) (sym (holds_both v what (is_number k n)) ∙ h) in
     (p.0, eqb-true (v k) n (sym (holds_number v k n) ∙ p.1))
