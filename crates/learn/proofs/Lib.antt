@@ -1,7 +1,12 @@
 pub mod Writing
 pub mod Fitting
 pub mod Staying
-pub mod Writing
+pub mod Meaning
+pub mod Steps
+pub mod Nodes
+pub mod Lists
+pub mod Numbering
+pub mod Overwritten
 pub mod Turned
 pub mod Copied
 pub mod Plain
@@ -9,10 +14,3 @@ pub mod Moved
 pub mod Tidied
 pub mod Lined
 pub mod Leaving
-pub mod Steps
-pub mod Meaning
-pub mod Steps
-pub mod Nodes
-pub mod Lists
-pub mod Numbering
-pub mod Overwritten

@@ -6,7 +6,7 @@ use Rattle.std.specs.Cmp.Derive.{both_true}
 use Rattle.condition.specs.Store.{count, cond_at}
 use Rattle.list.specs.Layout.{line_size, list_size, lines_at, columns_at, lines_in, lists_in, lines_fit, list_fits, Fits, lines_named, list_named, passing}
 use Rattle.list.proofs.Fitting.{fits, pass_parts}
-use Rattle.learn.specs.Over.{write_cond, write_ifs, write_columns, write_lists}
+use Rattle.learn.specs.Over.{write_cond, write_ifs, write_columns, write_lists, lists_size}
 use Rattle.learn.specs.Places.{over_lines, over_lists}
 use Rattle.learn.proofs.Meaning.{cells_same, fits_same, lines_before, lines_behind, lines_long, lines_mean, lines_name, lines_fits}
 
@@ -169,3 +169,12 @@ module _ (k n : ℕ) where
       let s = list_named_over c at xs f e ∙ named_more d e l (m c at xs) (w c at xs) (drop (at + 2) xs) (rw (drop-drop 2 at xs) at q.0) in
       let r = lists_name d e l c (at + list_size (drop at xs)) (first_list c at xs) (rest_passes list_fits c at xs p.1) (rest_passes (list_named d) c at xs q.1) in
       rw (shape_same c at xs 0 (omega arith), shape_same c at xs 1 (omega arith), drop-drop 2 at ys, s, drop-drop (list_size (drop at xs)) at ys, r) refl
+
+  pub lists_behind : (c at : ℕ) (xs : List ℕ) (d : ℕ) → at + lists_size c (drop at xs) ≤ d → drop d (over_lists k n c at xs) ≡ drop d xs
+  unfolding over_lists lists_size
+  lists_behind zero at xs d l = refl
+  lists_behind (suc c) at xs d l =
+      let e : lists_size c (drop (at + list_size (drop at xs)) (first_list c at xs)) ≡ lists_size c (drop (list_size (drop at xs)) (drop at xs))
+      = ap (lists_size c) (behind_list c at xs ∙ sym (drop-drop (list_size (drop at xs)) at xs)) in
+      lists_behind c (at + list_size (drop at xs)) (first_list c at xs) d (omega arith)
+      ∙ lines_behind k n (w c at xs) (m c at xs) (at + 2) xs d (omega arith)

@@ -1,6 +1,6 @@
 -- What writing over leaves, once the lists and the nodes are written and two nodes are added.
-use Rattle.std.proofs.Common.{◌≡◌, ℕ, ◌+◌, ◌<◌, ◌≤◌, Bool, true, List, length, get_or, drop, set, None, refl, ap, ◌∙◌, arith}
-use Rattle.std.proofs.lemmas.List.{get_or-set_same, drop-set-lt}
+use Rattle.std.proofs.Common.{◌≡◌, ◌≢◌, ℕ, ◌+◌, ◌<◌, ◌≤◌, Bool, true, List, length, get_or, drop, set, None, refl, ap, ◌∙◌, arith}
+use Rattle.std.proofs.lemmas.List.{get_or-set_same, get_or-set_other, length-set, drop-set-lt}
 use Rattle.std.proofs.lemmas.Bool.{lt-ltb, le-leb}
 use Rattle.condition.specs.Cond.{Cond, gap, known, both}
 use Rattle.condition.specs.Refusals.{first}
@@ -15,7 +15,8 @@ use Rattle.learn.specs.Over.{write_cond, write_lists, is_number, over, Numbered,
 use Rattle.learn.specs.Places.{over_lists, OverNodes}
 use Rattle.learn.proofs.Staying.{first_same}
 use Rattle.learn.proofs.Nodes.{cond_over}
-use Rattle.learn.proofs.Lists.{lines_over, lists_before, lists_long, lists_mean, lists_fit, lists_name}
+use Rattle.learn.proofs.Lists.{lines_over, lists_before, lists_long, lists_mean, lists_fit, lists_name, lists_behind}
+use Rattle.learn.proofs.Meaning.{same_at}
 
 passes_none : (ok : List ℕ → Bool) (lists : List ℕ) (number : ℕ) → passing ok (get_or lists 0 0) (drop 2 lists) ≡ get_or lists 0 0 → all_pass ok lists number ≡ None
 unfolding all_pass
@@ -118,4 +119,7 @@ module _ (lists ns : List ℕ) (k n : ℕ) (z : Numbered lists ns k n) where
       past = λ j l. b.grown.past j l ∙ (a.grown.past j (omega (arith, b.place, b.more)) ∙ o.past j (omega (arith, count_is)));
       long = b.grown.long ∙ (a.grown.long ∙ as_long);
       checked = checks;
+      behind = λ j l. let ne : j ≢ 1 = omega arith in
+          get_or-set_other ls 1 j q 0 ne ∙ same_at j lists ls (lists_behind k n (get_or lists 0 0) 2 lists j l);
+      lists_long = length-set ls 1 q ∙ lists_as_long;
     }

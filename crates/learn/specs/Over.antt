@@ -16,10 +16,11 @@
 --   number_told lists nodes k n      what is told, the first number of the list that applies, without 10 and want of memory
 --   NumberTold lists nodes k n r     the result r tells that, or want of memory where it is not told, or 10 where no filling would fit
 --   Numbered lists nodes k n         what they have where nothing is told of them
+--   lists_size k xs, all_size lists  how many numbers lists take
 --   Overwritten lists nodes k n lists₁ nodes₁   the lists and the store once n is written over k
 --   short_told n w xs                number 7: a slice too short for n lines, w cells wide
 --   AnswerOver k n m w xs ys         ys is the answer xs of m lines, w cells wide, with n over k in its cells
-use Rattle.std.specs.Prelude.{◌≡◌, ℕ, ◌+◌, ◌*◌, ◌<◌, ◌≤◌, true, cond as if, ◌⊎◌, ◌↔◌, List, [], ◌∷◌, length, Some, None, Result, MatchResult, ◌==◌, nat_le, nat_lt, slice_index}
+use Rattle.std.specs.Prelude.{◌≡◌, ℕ, zero, suc, ◌+◌, ◌*◌, ◌<◌, ◌≤◌, true, cond as if, ◌⊎◌, ◌↔◌, List, [], ◌∷◌, length, drop, Some, None, Result, MatchResult, ◌==◌, nat_le, nat_lt, slice_index}
 use Rattle.condition.specs.Cond.{Cell, known, gap, Cond, equal, both, each_cell}
 use Rattle.condition.specs.Refusals.{Told, told, first, unless}
 use Rattle.condition.specs.Store.{count, cond_at, store_fits, store_told, room_told}
@@ -27,7 +28,7 @@ use Rattle.condition.specs.declared.Refusal.{Refusal}
 use Rattle.condition.specs.declared.Refusal.TheVariants.{WouldNotFit, NoMemory}
 use Rattle.evaluate.specs.Filling.{Filling, holds}
 use Rattle.list.specs.Lists.{Line, Row, filled, Alike}
-use Rattle.list.specs.Layout.{line_size, lines_in, known_in, all_in, lines_fit, lines_named, lists_told, named_told, check_told}
+use Rattle.list.specs.Layout.{line_size, list_size, lines_in, known_in, all_in, lines_fit, lines_named, lists_told, named_told, check_told}
 use Rattle.query.specs.Ask.{Query}
 use Rattle.answer.specs.Answer.{answer}
 use Rattle.answer.specs.Promise.{Answers, Sure, Possible}
@@ -120,6 +121,14 @@ pub record Numbered (lists nodes : List ℕ) (k n : ℕ) : Type 0 where
   pub room : 11 + 5 * count nodes ≤ length nodes
   pub fits : SomeFits (both (known_in nodes lists) (is_number k n))
 
+-- how many numbers the k lists at the front of xs take, and all lists with their count and the node of what is known
+unfoldable pub lists_size : ℕ → List ℕ → ℕ
+lists_size zero xs = 0
+lists_size (suc k) xs = list_size xs + lists_size k (drop (list_size xs) xs)
+
+abbrev pub all_size : List ℕ → ℕ
+all_size lists = 2 + lists_size (slice_index lists 0) (drop 2 lists)
+
 pub record Overwritten (lists nodes : List ℕ) (k n : ℕ) (lists₁ nodes₁ : List ℕ) : Type 0 where
   -- some filling fits
   pub fits : SomeFits (both (known_in nodes lists) (is_number k n))
@@ -134,8 +143,10 @@ pub record Overwritten (lists nodes : List ℕ) (k n : ℕ) (lists₁ nodes₁ :
   pub store : store_fits nodes₁ ≡ true
   pub past : (j : ℕ) → 1 + 5 * count nodes₁ ≤ j → slice_index nodes₁ j ≡ slice_index nodes j
   pub long : length nodes₁ ≡ length nodes
-  -- the lists are lists, and name nodes that stand
+  -- the lists are lists, and name nodes that stand; what lies behind them is as it was
   pub checked : check_told lists₁ nodes₁ ≡ None
+  pub behind : (j : ℕ) → all_size lists ≤ j → slice_index lists₁ j ≡ slice_index lists j
+  pub lists_long : length lists₁ ≡ length lists
 
 abbrev pub short_told : ℕ → ℕ → List ℕ → Told
 short_told n w xs = unless (nat_le (n * line_size w) (length xs)) 7 (length xs)

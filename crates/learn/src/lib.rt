@@ -12,8 +12,6 @@ mod tidying;
 mod tidying_lines;
 
 pub use learning::learn;
-
-
 pub use over::{write_over, write_over_answer};
 pub use tidying::tidy;
 pub use tidying_lines::tidy_answer;
