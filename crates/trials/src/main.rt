@@ -11,6 +11,7 @@ mod names;
 mod plain;
 mod questions;
 mod random;
+mod shares;
 mod showing;
 mod trying;
 
@@ -27,5 +28,6 @@ fn run(rt: &HostRuntime) -> anyhow::Result<()> {
     questions::ask_questions(rt, heap, &mut random, &mut drawn)?;
     answers::decide_lines(rt, heap, &mut random)?;
     answers::decide_answers(rt, heap, &mut random)?;
-    learning::learn_all(rt, heap, &mut random)
+    learning::learn_all(rt, heap, &mut random)?;
+    shares::tell_shares(rt, heap, &mut random)
 }
