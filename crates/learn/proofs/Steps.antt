@@ -1,10 +1,9 @@
 -- The loops of writing over: one step on, and at the end.
-use Rattle.std.proofs.Common.{◌≡◌, ℕ, ◌+◌, ◌-◌, ◌*◌, ◌/◌, ◌<◌, ◌≤◌, ◌≢◌, List, length, get_or, drop, refl, ap, ◌∙◌, inl, inr, arith, add-zero, suc-mul, length-drop}
-use Rattle.std.proofs.lemmas.List.{get_or-drop}
+use Rattle.std.proofs.Common.{◌≡◌, ℕ, ◌+◌, ◌-◌, ◌*◌, ◌/◌, ◌<◌, ◌≤◌, ◌≢◌, List, length, drop, refl, sym, ap, ◌∙◌, inl, inr, arith, suc-mul}
 use Rattle.std.proofs.Math.Nat.{le-div_iff_mul-le}
 use Rattle.std.proofs.lemmas.Bool.{cases_lt}
 use Rattle.decide.specs.Standing.{whole_lines}
-use Rattle.list.specs.Layout.{line_size, list_size, list_fits, Fits, passing}
+use Rattle.list.specs.Layout.{line_size, list_size, lines_at, columns_at, list_fits, passing}
 use Rattle.list.proofs.Fitting.{passed_next}
 use Rattle.list.proofs.Stepping.{left_step}
 use Rattle.learn.specs.Places.{over_cell, over_cells, over_lines, over_lists}
@@ -40,47 +39,25 @@ too_short n w xs ne = elim (cases_lt (length xs) (n * line_size w)) [
       absurd (ne (omega arith))
 ]
 
--- the list that stands at a place
-pub record Hand (lists : List ℕ) (at : ℕ) : Type 0 where
-  pub lines : get_or (drop at lists) 0 0 ≡ get_or lists at 0
-  pub columns : get_or (drop at lists) 1 0 ≡ get_or lists (at + 1) 0
-  pub some : at + 2 ≤ length lists
-  pub narrow : get_or lists (at + 1) 0 ≤ 4
-  pub whole : at + 2 + get_or lists at 0 * line_size (get_or lists (at + 1) 0) ≤ length lists
-
-pub hand : (lists : List ℕ) (at : ℕ) → Fits (drop at lists) → Hand lists at
-hand lists at f =
-    let a : get_or (drop at lists) 0 0 ≡ get_or lists at 0 = get_or-drop at lists 0 0 ∙ ap (λ t. get_or lists t 0) (add-zero at) in
-    let b : get_or (drop at lists) 1 0 ≡ get_or lists (at + 1) 0 = get_or-drop at lists 1 0 in
-    let w : 2 + get_or lists at 0 * line_size (get_or lists (at + 1) 0) ≤ length (drop at lists) = rw (a, b) at f.whole in
-    let s = f.some in let d = length-drop at lists in
-    record {
-      lines = a;
-      columns = b;
-      some = omega arith;
-      narrow = rw b at f.narrow;
-      whole = omega arith;
-    }
-
+-- the list at hand, of m lines, w cells wide, which begin at p
 module _ (k n : ℕ) where
   pub lists_none : (c at : ℕ) (xs : List ℕ) → c ≡ 0 → over_lists k n c at xs ≡ xs
   unfolding over_lists
   lists_none c at xs e = rw e refl
 
-  pub lists_step : (c t at : ℕ) (xs : List ℕ) → t < c → Hand xs at →
-      over_lists k n (c - t) at xs ≡ over_lists k n (c - (t + 1)) (at + (2 + get_or xs at 0 * line_size (get_or xs (at + 1) 0))) (over_lines k n (get_or xs at 0) (get_or xs (at + 1) 0) (at + 2) xs)
-  unfolding over_lists
-  lists_step c t at xs l h =
-      ap (λ m. over_lists k n m at xs) (left_step c t l)
-      ∙ (ap (λ m. over_lists k n (c - (t + 1)) (at + (2 + m * line_size (get_or (drop at xs) 1 0))) (over_lines k n m (get_or (drop at xs) 1 0) (at + 2) xs)) h.lines
-      ∙ ap (λ w. over_lists k n (c - (t + 1)) (at + (2 + get_or xs at 0 * line_size w)) (over_lines k n (get_or xs at 0) w (at + 2) xs)) h.columns)
+  module _ (c t at p m w : ℕ) (xs : List ℕ) (l : t < c) (begins : p ≡ at + 2) (lines : m ≡ lines_at (drop at xs)) (columns : w ≡ columns_at (drop at xs)) where
+    end : at + list_size (drop at xs) ≡ p + m * line_size w
+    end = rw (begins, lines, columns) (omega arith)
 
-  -- the lists that are left fit as they did
-  pub lists_left : (c t at : ℕ) (xs : List ℕ) → t < c → Hand xs at → passing list_fits (c - t) (drop at xs) ≡ c - t →
-      let s = 2 + get_or xs at 0 * line_size (get_or xs (at + 1) 0) in
-      passing list_fits (c - (t + 1)) (drop (at + s) (over_lines k n (get_or xs at 0) (get_or xs (at + 1) 0) (at + 2) xs)) ≡ c - (t + 1)
-  lists_left c t at xs l h e =
-      let s = 2 + get_or xs at 0 * line_size (get_or xs (at + 1) 0) in
-      let z : s ≡ list_size (drop at xs) = rw (h.lines, h.columns) refl in
-      ap (passing list_fits (c - (t + 1))) (lines_behind k n (get_or xs (at + 1) 0) (get_or xs at 0) (at + 2) xs (at + s) (omega arith))
-      ∙ passed_next list_fits c t at s xs l z e
+    pub lists_step : over_lists k n (c - t) at xs ≡ over_lists k n (c - (t + 1)) (p + m * line_size w) (over_lines k n m w p xs)
+    unfolding over_lists
+    lists_step =
+        ap (λ i. over_lists k n i at xs) (left_step c t l)
+        ∙ (ap (λ i. over_lists k n (c - (t + 1)) i (over_lines k n (lines_at (drop at xs)) (columns_at (drop at xs)) (at + 2) xs)) end
+        ∙ ap (over_lists k n (c - (t + 1)) (p + m * line_size w)) (sym (rw (begins, lines, columns) refl)))
+
+    -- the lists that are left fit as they did
+    pub lists_left : passing list_fits (c - t) (drop at xs) ≡ c - t → passing list_fits (c - (t + 1)) (drop (p + m * line_size w) (over_lines k n m w p xs)) ≡ c - (t + 1)
+    lists_left h =
+        ap (passing list_fits (c - (t + 1))) (lines_behind k n w m p xs (p + m * line_size w) (omega arith) ∙ ap (λ i. drop i xs) (sym end))
+        ∙ passed_next list_fits c t at (list_size (drop at xs)) xs l refl h

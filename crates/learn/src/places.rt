@@ -6,7 +6,7 @@ ghost use Rattle.list.specs.Layout.{line_size, lists_told};
 ghost use Rattle.learn.specs.Places.{put_number, over_cell, over_cells, over_lines, over_lists, over_node, OverNodes};
 
 use condition::{Cell, Node, cell_at, nth_node, set_cell, set_node};
-use list::line_size;
+use list::{line_size, read_shape};
 
 // In the cell at a place.
 fn over_cell(xs: &mut [u64], at: usize, gap: u64, number: u64)
@@ -34,7 +34,7 @@ pub(crate) fn over_lines(xs: &mut [u64], at: usize, n: usize, w: usize, gap: u64
     ensures { xs.new ≡ over_lines gap number n w at xs.old }
 {
     let mut next = at;
-    for i in 0..n {
+    for _ in 0..n {
         over_cells(xs, next + 1, w, gap, number);
         next += line_size(w);
     }
@@ -47,11 +47,10 @@ pub(crate) fn over_lists(lists: &mut [u64], gap: u64, number: u64)
 {
     let mut at = 2;
     let count = lists[0];
-    for t in 0..count {
-        let lines = lists[at] as usize;
-        let width = lists[at + 1] as usize;
-        over_lines(lists, at + 2, lines, width, gap, number);
-        at += 2 + lines * line_size(width);
+    for _ in 0..count {
+        let shape = read_shape(lists, at);
+        over_lines(lists, shape.at, shape.lines, shape.width, gap, number);
+        at = shape.at + shape.lines * line_size(shape.width);
     }
 }
 

@@ -21,7 +21,7 @@ pub use filled::rows;
 pub use fits::{any_lines_fit, check_lists};
 pub use lines::{Line, Lines, line_size};
 pub use named::{any_lines_named, check_named};
-pub use shape::Shape;
+pub use shape::{Shape, read_shape};
 pub use shapes::Shapes;
 
 // How many lists there are; or why the lists are none, or else the store is none, or else a node they name does not stand.

@@ -11,7 +11,7 @@ pub struct Shape {
 }
 
 // The shape of the list whose two numbers stand at a place.
-pub(crate) fn read_shape(lists: &[u64], at: usize) -> Shape
+pub fn read_shape(lists: &[u64], at: usize) -> Shape
     requires within { at ≤ length lists.now }
     requires fits { Fits (drop at lists.now) }
     ensures at { result.at ≡ at + 2 }
