@@ -1,11 +1,11 @@
-// What is learned of the worked example, step by step: which rows of an answer are sure, before and after.
+// What is learned of the worked example, step by step, and what is written over: which rows of an answer are sure, before and after.
 #![tactic(auto)]
 
 use answer::{ask, with_room};
-use condition::{Cell, Node, Refusal, append};
+use condition::{Cell, Node, Refusal, append, cell_at};
 use decide::sure_rows;
-use learn::learn;
-use std::alloc::Global;
+use learn::{learn, write_over, write_over_answer};
+use std::alloc::{AllocError, Global};
 use std::io;
 
 // Baptisms (child, father) and marriages (man, woman); every line under node 0, and node 6 is known.
@@ -33,44 +33,89 @@ struct Book {
 }
 
 fn main(rt: HostRuntime) -> anyhow::Result<()> {
-    let heap = rt.alloc();
-    let mut book = Book {
+    tell_learning(&rt)?;
+    println!(rt)?;
+    tell_writing(&rt)?;
+    println!(rt)?;
+    tell_refusals(&rt)
+}
+
+// The lists and the store of the example, with room for a question of that cost.
+fn begin(heap: Global, cost: u64) -> Result<Book, AllocError> {
+    Ok(Book {
         lists: Vec::from_slice(heap, &LISTS)?,
-        nodes: with_room(heap, &NODES, 200)?,
+        nodes: with_room(heap, &NODES, cost)?,
         answer: vec![in heap; 0u64; 30]?,
-    };
-    tell_asked(&rt, &mut book)?;
+    })
+}
+
+// Conditions are learned.
+fn tell_learning(rt: &HostRuntime) -> anyhow::Result<()> {
+    let mut book = begin(rt.alloc(), 200)?;
+    tell_asked(rt, &mut book)?;
     tell_learned(
-        &rt,
+        rt,
         &mut book,
         "g2 is 20",
         Node::Equal(Cell::Gap(2), Cell::Number(20)),
     )?;
-    tell_sure(&rt, &book, "the answer from before")?;
-    tell_asked(&rt, &mut book)?;
+    tell_sure(rt, &book, &book.answer, "the answer from before")?;
+    tell_asked(rt, &mut book)?;
     tell_learned(
-        &rt,
+        rt,
         &mut book,
         "g0 is 12",
         Node::Equal(Cell::Gap(0), Cell::Number(12)),
     )?;
     tell_learned(
-        &rt,
+        rt,
         &mut book,
         "g0 is 10",
         Node::Equal(Cell::Gap(0), Cell::Number(10)),
     )?;
     tell_learned(
-        &rt,
+        rt,
         &mut book,
         "g1 is 10",
         Node::Equal(Cell::Gap(1), Cell::Number(10)),
     )?;
-    tell_sure(&rt, &book, "the answer from before")?;
-    match learn(heap, &mut book.lists, &mut book.nodes, 1000) {
+    tell_sure(rt, &book, &book.answer, "the answer from before")?;
+    match learn(rt.alloc(), &mut book.lists, &mut book.nodes, 1000) {
         Ok(()) => println!(rt; "node 1000 is learned")?,
         Err(refusal) => println!(rt; "node 1000: {refusal}")?,
     }
+    Ok(())
+}
+
+// A number is written over its gap in the lists, and in one of two copies of an answer: the same rows are sure of both, and of the
+// answer that is asked for anew.
+fn tell_writing(rt: &HostRuntime) -> anyhow::Result<()> {
+    let mut book = begin(rt.alloc(), 200)?;
+    tell_asked(rt, &mut book)?;
+    let mut written = Vec::from_slice(rt.alloc(), &book.answer)?;
+    tell_written(rt, &mut book, 2, 20)?;
+    tell_answer_written(rt, &mut written, 6, 2, 20)?;
+    tell_lines(rt, &book.answer, "the answer from before")?;
+    tell_sure(rt, &book, &book.answer, "the answer from before")?;
+    tell_lines(rt, &written, "the answer written over")?;
+    tell_sure(rt, &book, &written, "the answer written over")?;
+    tell_asked(rt, &mut book)?;
+    tell_lines(rt, &book.answer, "the answer")?;
+    tell_written(rt, &mut book, 2, 21)?;
+    Ok(())
+}
+
+// What can't be written over.
+fn tell_refusals(rt: &HostRuntime) -> anyhow::Result<()> {
+    let mut book = begin(rt.alloc(), 200)?;
+    tell_written(rt, &mut book, 64, 20)?;
+    tell_written(rt, &mut book, 0, 12)?;
+    tell_answer_written(rt, &mut book.answer, 7, 2, 20)?;
+    let mut full = Book {
+        nodes: Vec::from_slice(rt.alloc(), &NODES)?,
+        ..begin(rt.alloc(), 0)?
+    };
+    tell_written(rt, &mut full, 2, 20)?;
     Ok(())
 }
 
@@ -80,7 +125,7 @@ fn tell_asked(rt: &HostRuntime, book: &mut Book) -> io::Result<()> {
         Ok(lines) => println!(rt; "asked: {lines} lines")?,
         Err(refusal) => println!(rt; "asked: {refusal}")?,
     }
-    tell_sure(rt, book, "the answer")
+    tell_sure(rt, book, &book.answer, "the answer")
 }
 
 // Adds a node, and learns it.
@@ -96,14 +141,45 @@ fn learned(heap: Global, book: &mut Book, node: Node) -> Result<(), Refusal> {
     learn(heap, &mut book.lists, &mut book.nodes, new)
 }
 
-// The sure rows of the answer.
-fn tell_sure(rt: &HostRuntime, book: &Book, name: &str) -> io::Result<()> {
+// Writes a number over a gap in the lists and the store.
+fn tell_written(rt: &HostRuntime, book: &mut Book, gap: u64, number: u64) -> io::Result<()> {
+    match write_over(rt.alloc(), &mut book.lists, &mut book.nodes, gap, number) {
+        Ok(()) => println!(rt; "g{gap} is {number}: written over"),
+        Err(refusal) => println!(rt; "g{gap} is {number}: {refusal}"),
+    }
+}
+
+// Writes it over in an answer of so many lines.
+fn tell_answer_written(
+    rt: &HostRuntime,
+    answer: &mut [u64],
+    lines: u64,
+    gap: u64,
+    number: u64,
+) -> io::Result<()> {
+    match write_over_answer(answer, lines, 2, gap, number) {
+        Ok(()) => println!(rt; "g{gap} is {number}: written over in the answer"),
+        Err(refusal) => println!(rt; "{lines} lines of the answer: {refusal}"),
+    }
+}
+
+// The cells of an answer's lines.
+fn tell_lines(rt: &HostRuntime, answer: &[u64], name: &str) -> io::Result<()> {
+    print!(rt; "{name}: lines:")?;
+    for line in answer.chunks_exact(5) {
+        print!(rt; " ({} {})", cell_at(line, 1), cell_at(line, 3))?;
+    }
+    println!(rt)
+}
+
+// The sure rows of an answer.
+fn tell_sure(rt: &HostRuntime, book: &Book, answer: &[u64], name: &str) -> io::Result<()> {
     let mut rows = [0; 12];
     match sure_rows(
         rt.alloc(),
         &book.lists,
         &book.nodes,
-        &book.answer,
+        answer,
         6,
         2,
         &mut rows,
