@@ -46,7 +46,7 @@ pub enum Node {
 // Why a call was refused. What it holds is the place that is told with the number.
 #[derive(Clone, Copy, Debug, PartialEq, Eq)]
 pub enum Refusal {
-    // 1: the first list at fault; 0 for no lists, 8 for more than eight, 9 for an answer's cells.
+    // 1: the first list at fault; 0 for no lists, 8 for more than eight, 9 for an answer's cells or a gap to be written over.
     BadLists(u64),
     // 2: the store's count.
     BadStore(u64),
@@ -70,7 +70,7 @@ pub enum Refusal {
     TooManyNumbers(u32),
     // 9: 64 and how many numbers are named, where they may be more than 32 bits hold.
     TooManyNumbersAt(u64),
-    // 10: the node that was to be learned.
+    // 10: the node that was to be learned, or the place where it would stand.
     WouldNotFit(u64),
     // 11: no filling fits what is known.
     NothingFits,

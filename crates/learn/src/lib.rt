@@ -1,4 +1,4 @@
-// Learning: what is known grows.
+// Learning: what is known grows, and a learned number is written over its gap.
 #![tactic(auto)]
 
 ghost use Rattle.learn.specs.Over.{WrittenOver, OverHolds, OverAnswers, OverLearned, OverNarrowed};
