@@ -16,7 +16,8 @@ use Rattle.decide.specs.Standing.{nine_told, answer_told, decide_told, is_possib
 use Rattle.decide.specs.declared.Standing.{Standing}
 use Rattle.learn.specs.Learning.{learned, alone, SomeFits, NoneFits, learn_told, Learnable}
 
-after : (a b : Told) → a ≡ None → first a b ≡ b
+-- what is told behind nothing
+pub after : (a b : Told) → a ≡ None → first a b ≡ b
 after a b e = rw e refl
 
 module _ (nodes : List ℕ) (new : ℕ) where

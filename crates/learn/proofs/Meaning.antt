@@ -73,31 +73,52 @@ module _ (k n : ℕ) where
   cells_long zero at xs = refl
   cells_long (suc w) at xs = cells_long w (at + 2) (over_cell k n at xs) ∙ cell_long k n at xs
 
+  -- of the first cell, and of those behind it
+  module _ (w at : ℕ) (xs : List ℕ) where
+    abbrev one_over : List ℕ
+    one_over = over_cell k n at xs
+
+    abbrev cells_over : List ℕ
+    cells_over = over_cells k n w (at + 2) one_over
+
+    first_tag : get_or (drop at cells_over) 0 0 ≡ get_or one_over at 0
+    first_tag = get_or-drop at cells_over 0 0 ∙ (ap (λ t. get_or cells_over t 0) (add-zero at) ∙ cells_before w (at + 2) one_over at (omega arith))
+
+    first_name : get_or (drop at cells_over) 1 0 ≡ get_or one_over (at + 1) 0
+    first_name = get_or-drop at cells_over 1 0 ∙ cells_before w (at + 2) one_over (at + 1) (omega arith)
+
+    tag_there : get_or (drop at xs) 0 0 ≡ get_or xs at 0
+    tag_there = get_or-drop at xs 0 0 ∙ ap (λ t. get_or xs t 0) (add-zero at)
+
+    name_there : get_or (drop at xs) 1 0 ≡ get_or xs (at + 1) 0
+    name_there = get_or-drop at xs 1 0
+
   cells_mean : (w at : ℕ) (xs : List ℕ) → at + 2 * w ≤ length xs → cells_in w (drop at (over_cells k n w at xs)) ≡ write_cells k n (cells_in w (drop at xs))
   unfolding over_cells cells_in write_cells
   cells_mean zero at xs l = refl
   cells_mean (suc w) at xs l =
-      let zs = over_cell k n at xs in let ys = over_cells k n w (at + 2) zs in
-      let a : get_or (drop at ys) 0 0 ≡ get_or zs at 0 = get_or-drop at ys 0 0 ∙ (ap (λ t. get_or ys t 0) (add-zero at) ∙ cells_before w (at + 2) zs at (omega arith)) in
-      let b : get_or (drop at ys) 1 0 ≡ get_or zs (at + 1) 0 = get_or-drop at ys 1 0 ∙ cells_before w (at + 2) zs (at + 1) (omega arith) in
-      let c : get_or (drop at xs) 0 0 ≡ get_or xs at 0 = get_or-drop at xs 0 0 ∙ ap (λ t. get_or xs t 0) (add-zero at) in
-      let d : get_or (drop at xs) 1 0 ≡ get_or xs (at + 1) 0 = get_or-drop at xs 1 0 in
-      let rest = cells_mean w (at + 2) zs (omega (arith, cell_long k n at xs)) in
-      rw (a, b, c, d, cell_is k n at xs (omega arith), drop-drop 2 at ys, drop-drop 2 at xs, rest, cell_behind k n at xs (at + 2) (omega arith)) refl
+      let rest = cells_mean w (at + 2) (one_over w at xs) (omega (arith, cell_long k n at xs)) in
+      rw (
+        first_tag w at xs,
+        first_name w at xs,
+        tag_there w at xs,
+        name_there w at xs,
+        cell_is k n at xs (omega arith),
+        drop-drop 2 at (cells_over w at xs),
+        drop-drop 2 at xs,
+        rest,
+        cell_behind k n at xs (at + 2) (omega arith),
+      ) refl
 
   cells_fits : (w at : ℕ) (xs : List ℕ) → at + 2 * w ≤ length xs → cells_fit w (drop at xs) ≡ true → cells_fit w (drop at (over_cells k n w at xs)) ≡ true
   unfolding over_cells cells_fit
   cells_fits zero at xs l h = refl
   cells_fits (suc w) at xs l h =
-      let zs = over_cell k n at xs in let ys = over_cells k n w (at + 2) zs in
-      let a : get_or (drop at ys) 0 0 ≡ get_or zs at 0 = get_or-drop at ys 0 0 ∙ (ap (λ t. get_or ys t 0) (add-zero at) ∙ cells_before w (at + 2) zs at (omega arith)) in
-      let b : get_or (drop at ys) 1 0 ≡ get_or zs (at + 1) 0 = get_or-drop at ys 1 0 ∙ cells_before w (at + 2) zs (at + 1) (omega arith) in
-      let c : get_or (drop at xs) 0 0 ≡ get_or xs at 0 = get_or-drop at xs 0 0 ∙ ap (λ t. get_or xs t 0) (add-zero at) in
-      let d : get_or (drop at xs) 1 0 ≡ get_or xs (at + 1) 0 = get_or-drop at xs 1 0 in
       let p = and_parts (cell_fits (get_or (drop at xs) 0 0) (get_or (drop at xs) 1 0)) (cells_fit w (drop 2 (drop at xs))) h in
-      let f : cell_fits (get_or xs at 0) (get_or xs (at + 1) 0) ≡ true = rw (c, d) at p.0 in
-      let r : cells_fit w (drop (at + 2) zs) ≡ true = rw (cell_behind k n at xs (at + 2) (omega arith)) (rw (drop-drop 2 at xs) at p.1) in
-      rw (a, b, drop-drop 2 at ys) (both_true (cell_fit k n at xs (omega arith) f) (cells_fits w (at + 2) zs (omega (arith, cell_long k n at xs)) r))
+      let f : cell_fits (get_or xs at 0) (get_or xs (at + 1) 0) ≡ true = rw (tag_there w at xs, name_there w at xs) at p.0 in
+      let r : cells_fit w (drop (at + 2) (one_over w at xs)) ≡ true = rw (cell_behind k n at xs (at + 2) (omega arith)) (rw (drop-drop 2 at xs) at p.1) in
+      rw (first_tag w at xs, first_name w at xs, drop-drop 2 at (cells_over w at xs))
+      (both_true (cell_fit k n at xs (omega arith) f) (cells_fits w (at + 2) (one_over w at xs) (omega (arith, cell_long k n at xs)) r))
 
 -- cells are read from their own numbers
 pub cells_same : (w : ℕ) (xs ys : List ℕ) → ((p : ℕ) → p < 2 * w → get_or ys p 0 ≡ get_or xs p 0) → cells_in w ys ≡ cells_in w xs

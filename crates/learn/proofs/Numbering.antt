@@ -18,6 +18,7 @@ use Rattle.decide.specs.declared.Standing.{Standing}
 use Rattle.decide.proofs.Counted.{counted_same}
 use Rattle.learn.specs.Learning.{SomeFits, NoneFits}
 use Rattle.learn.specs.Over.{is_number, number_told, Numbered}
+use Rattle.learn.proofs.Fitting.{after}
 use Rattle.learn.proofs.Writing.{learned_parts, learned_both}
 
 -- what is known, and a gap as the only line
@@ -82,9 +83,6 @@ module _ (what : Cond) (k n : ℕ) where
         counted_same 64 (has (gaps_in (named_cells what gap_line))) (has (gaps_in (named_cells (both what (is_number k n)) []))) (λ j l. gaps_same j),
         counted_same (2 ^ 64) (has (numbers_in (named_cells what gap_line) ++ (n ∷ []))) (has (numbers_in (named_cells (both what (is_number k n)) []) ++ [])) (λ j l. numbers_same j),
       ) refl
-
-after : (a b : Told) → a ≡ None → first a b ≡ b
-after a b e = rw e refl
 
 -- a row that is the number is there where what is known holds and the gap is the number
 line_holds : (what : Cond) (k n : ℕ) (v : Filling) (b : Bool) → holds v what ≡ b → stands (n ∷ []) (ask (table 0) (all_filled v (gap_line what k n ∷ []))) ≡ (b && eqb n (v k))

@@ -116,10 +116,10 @@ module _ (lists ns : List ℕ) (k n : ℕ) (z : Numbered lists ns k n) where
       lines = lines_over k n ns ns₃ conds_over;
       more = count_is;
       store = fits_is;
-      past = λ j l. b.grown.past j l ∙ (a.grown.past j (omega (arith, b.place, b.more)) ∙ o.past j (omega (arith, count_is)));
-      long = b.grown.long ∙ (a.grown.long ∙ as_long);
+      nodes_past = λ j l. b.grown.past j l ∙ (a.grown.past j (omega (arith, b.place, b.more)) ∙ o.past j (omega (arith, count_is)));
+      nodes_long = b.grown.long ∙ (a.grown.long ∙ as_long);
       checked = checks;
-      behind = λ j l. let ne : j ≢ 1 = omega arith in
+      lists_past = λ j l. let ne : j ≢ 1 = omega arith in
           get_or-set_other ls 1 j q 0 ne ∙ same_at j lists ls (lists_behind k n (get_or lists 0 0) 2 lists j l);
       lists_long = length-set ls 1 q ∙ lists_as_long;
     }

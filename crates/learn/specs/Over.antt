@@ -130,29 +130,30 @@ abbrev pub all_size : List ℕ → ℕ
 all_size lists = 2 + lists_size (slice_index lists 0) (drop 2 lists)
 
 pub record Overwritten (lists nodes : List ℕ) (k n : ℕ) (lists₁ nodes₁ : List ℕ) : Type 0 where
-  -- some filling fits
+  -- some filling that fits gives the gap the number
   pub fits : SomeFits (both (known_in nodes lists) (is_number k n))
   pub known : known_in nodes₁ lists₁ ≡ over (known_in nodes lists) k n
-  -- the lists, and every condition that stood, with the number for the gap
+  -- the lists have the number for the gap, and so has every condition that stood
   pub all : all_in nodes₁ lists₁ ≡ write_lists k n (all_in nodes lists)
   pub conditions : (j : ℕ) → j < count nodes → cond_at nodes₁ j ≡ write_cond k n (cond_at nodes j)
-  -- every answer whose nodes stood, with the number for the gap in its conditions
+  -- so every answer whose nodes stood has it in its conditions
   pub lines : (m w : ℕ) (xs : List ℕ) → lines_named (count nodes) m w xs ≡ true → lines_in nodes₁ m w xs ≡ write_ifs k n (lines_in nodes m w xs)
-  -- two nodes more stand, and behind them the slice holds what it held
+  -- two nodes more stand, and the store is one
   pub more : count nodes₁ ≡ count nodes + 2
   pub store : store_fits nodes₁ ≡ true
-  pub past : (j : ℕ) → 1 + 5 * count nodes₁ ≤ j → slice_index nodes₁ j ≡ slice_index nodes j
-  pub long : length nodes₁ ≡ length nodes
-  -- the lists are lists, and name nodes that stand; what lies behind them is as it was
+  -- the lists are lists, and name nodes that stand
   pub checked : check_told lists₁ nodes₁ ≡ None
-  pub behind : (j : ℕ) → all_size lists ≤ j → slice_index lists₁ j ≡ slice_index lists j
+  -- both slices are as long as they were, and hold behind the lists and the nodes what they held
   pub lists_long : length lists₁ ≡ length lists
+  pub nodes_long : length nodes₁ ≡ length nodes
+  pub lists_past : (j : ℕ) → all_size lists ≤ j → slice_index lists₁ j ≡ slice_index lists j
+  pub nodes_past : (j : ℕ) → 1 + 5 * count nodes₁ ≤ j → slice_index nodes₁ j ≡ slice_index nodes j
 
 abbrev pub short_told : ℕ → ℕ → List ℕ → Told
 short_told n w xs = unless (nat_le (n * line_size w) (length xs)) 7 (length xs)
 
 pub record AnswerOver (k n m w : ℕ) (xs ys : List ℕ) : Type 0 where
-  -- over any store
+  -- over any store, the cells of the lines have the number for the gap
   pub lines : (nodes : List ℕ) → lines_in nodes m w ys ≡ write_columns k n (lines_in nodes m w xs)
   -- the nodes stand where they stood, and cells are cells
   pub named : (c : ℕ) → lines_named c m w ys ≡ lines_named c m w xs
