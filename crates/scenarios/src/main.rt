@@ -2,6 +2,7 @@
 #![tactic(auto)]
 
 use answer::{ask, with_room};
+use children::tell_children;
 use condition::{Cell, Node, Refusal, append, cell_at};
 use decide::sure_rows;
 use learn::{learn, write_over, write_over_answer};
@@ -9,6 +10,7 @@ use std::alloc::{AllocError, Global};
 use std::io;
 use tidied::tell_tidied;
 
+mod children;
 mod tidied;
 
 // Baptisms (child, father) and marriages (man, woman); every line under node 0, and node 6 is known.
@@ -37,6 +39,8 @@ struct Book {
 
 fn main(rt: HostRuntime) -> anyhow::Result<()> {
     tell_learning(&rt)?;
+    println!(rt)?;
+    tell_children(&rt)?;
     println!(rt)?;
     tell_writing(&rt)?;
     println!(rt)?;
