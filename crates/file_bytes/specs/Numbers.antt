@@ -4,7 +4,13 @@
 --   Taken n bs r cs     what is left of the bytes bs once n of them were read, or none where there were fewer
 --   numbers_in n bs     the numbers in the first 4 n bytes
 --   ReadOn n bs xs cs ys     n numbers were read: ys is xs with them behind it, and cs are the bytes left
-use Rattle.std.specs.Prelude.{◌≡◌, ℕ, zero, suc, ◌+◌, ◌*◌, ◌<◌, ◌≤◌, List, [], ◌∷◌, ◌++◌, length, drop, Some, None, Option, slice_index}
+--   ReadSome bs xs cs ys     some numbers were read so
+--   AllBelow m xs       each of the numbers xs is below m
+--   four n              the four bytes of a number, low byte first
+--   bytes_of ns         the bytes of the numbers ns, one number after the other
+--   WrittenRead         the bytes of numbers below 2^32 are read as these numbers
+--   ReadWritten         the numbers in some bytes have these bytes
+use Rattle.std.specs.Prelude.{◌≡◌, ℕ, zero, suc, ◌+◌, ◌*◌, ◌/◌, ◌%◌, ◌^◌, ◌<◌, ◌≤◌, List, [], ◌∷◌, ◌++◌, length, drop, Some, None, Option, slice_index}
 
 abbrev pub number_at : List ℕ → ℕ
 number_at bs = slice_index bs 0 + 256 * slice_index bs 1 + 65536 * (slice_index bs 2 + 256 * slice_index bs 3)
@@ -23,3 +29,21 @@ ReadOn n bs xs cs ys = (ys ≡ xs ++ numbers_in n bs) × (cs ≡ drop (4 * n) bs
 -- some numbers were read
 abbrev pub ReadSome : (bs xs cs ys : List ℕ) → Type 0
 ReadSome bs xs cs ys = (n : ℕ) × ReadOn n bs xs cs ys
+
+abbrev pub AllBelow : ℕ → List ℕ → Type 0
+AllBelow m xs = (k : ℕ) → slice_index xs k < m
+
+abbrev pub four : ℕ → List ℕ
+four n = n % 256 ∷ (n / 256 % 256 ∷ (n / 65536 % 256 ∷ (n / 16777216 % 256 ∷ [])))
+
+unfoldable pub bytes_of : List ℕ → List ℕ
+bytes_of [] = []
+bytes_of (n ∷ ns) = four n ++ bytes_of ns
+
+-- what stands behind them is left
+abbrev pub WrittenRead : Type 0
+WrittenRead =
+    (ns bs : List ℕ) → AllBelow (2 ^ 32) ns → (numbers_in (length ns) (bytes_of ns ++ bs) ≡ ns) × (drop (4 * length ns) (bytes_of ns ++ bs) ≡ bs)
+
+abbrev pub ReadWritten : Type 0
+ReadWritten = (n : ℕ) (bs : List ℕ) → AllBelow 256 bs → 4 * n ≤ length bs → bytes_of (numbers_in n bs) ++ drop (4 * n) bs ≡ bs

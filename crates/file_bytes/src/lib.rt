@@ -2,10 +2,14 @@
 #![tactic(auto)]
 
 ghost use Rattle.std.specs.Prelude.{◌≡◌, ◌*◌, ◌≤◌, [], ◌∷◌, length, IfOk, OnOk, slice_index};
-ghost use Rattle.file_bytes.specs.Numbers.{number_at, Taken, ReadOn, ReadSome};
+ghost use Rattle.file_bytes.specs.Numbers.{number_at, Taken, ReadOn, ReadSome, WrittenRead, ReadWritten};
 
 use condition::{MOST_NODES, Refusal};
 use std::alloc::Global;
+
+mod writing;
+
+pub use writing::{put, put_numbers};
 
 // The bytes of a file that are left to read.
 #[derive(Clone, Copy)]
@@ -115,7 +119,8 @@ fn read_list(input: &mut Input, i: u64, most: u64, lists: &mut Vec<u64>) -> Resu
 
 // A store of `count` nodes: the count, and five numbers of the file a node.
 pub fn read_nodes(heap: Global, input: &mut Input, count: u64) -> Result<Vec<u64>, Refusal>
-    ensures { IfOk result (λ v. ReadOn (5 * count) input.old.rest.now (count ∷ []) input.new.rest.now v.items) }
+    ensures few { OnOk result (count ≤ 131072) }
+    ensures read { IfOk result (λ v. ReadOn (5 * count) input.old.rest.now (count ∷ []) input.new.rest.now v.items) }
 {
     if count > MOST_NODES {
         return Err(Refusal::BadStore(count));
@@ -125,3 +130,13 @@ pub fn read_nodes(heap: Global, input: &mut Input, count: u64) -> Result<Vec<u64
     input.numbers(5 * count, &mut nodes, Refusal::BadStore(count))?;
     Ok(nodes)
 }
+
+// What was written is read back: see specs/Numbers.antt.
+pub fn written_read()
+    ensures { WrittenRead }
+{}
+
+// What was read is written as it was: see specs/Numbers.antt.
+pub fn read_written()
+    ensures { ReadWritten }
+{}

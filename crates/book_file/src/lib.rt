@@ -1,0 +1,6 @@
+// A book: lists with gaps, and what is known of them, as a file holds them; and learning into a book in memory.
+#![tactic(auto)]
+
+mod book;
+
+pub use book::Book;
