@@ -1,16 +1,18 @@
 -- Books as bytes and back.
-use Rattle.std.proofs.Common.{◌≡◌, ℕ, zero, suc, ◌+◌, ◌-◌, ◌*◌, ◌<◌, ◌≤◌, ◌^◌, List, [], ◌∷◌, ◌++◌, length, get_or, take, drop, sym, refl, ap, ◌∙◌, append_assoc, arith, length-drop, length-append, Fits, w8}
+use Rattle.std.proofs.Common.{◌≡◌, ℕ, zero, suc, ◌+◌, ◌-◌, ◌*◌, ◌<◌, ◌≤◌, ◌^◌, List, [], ◌∷◌, ◌++◌, length, get_or, take, drop, sym, refl, ap, None, ◌∙◌, append_assoc, arith, length-drop, length-append}
 use Rattle.std.proofs.lemmas.List.{append-nil, take_at, drop_at, take_rest, nil_from_length}
 use Rattle.condition.specs.Store.{count}
+use Rattle.list.specs.Layout.{check_told}
 use Rattle.file_bytes.specs.Numbers.{number_at, numbers_in, ReadOn, ReadSome, AllBelow, four, bytes_of}
-use Rattle.file_bytes.proofs.Inverse.{below_drop, bytes_read, bytes_written, bytes_add, bytes_long}
+use Rattle.file_bytes.proofs.Reading.{below_drop}
+use Rattle.file_bytes.proofs.Inverse.{bytes_read, bytes_written, bytes_add, bytes_long}
 use Rattle.book_file.specs.Books.{IsBook, book_bytes}
 
 -- numbers that are read fit four bytes
-number_small : (bs : List ℕ) → AllBelow 256 bs → number_at bs < 2 ^ 32
+pub number_small : (bs : List ℕ) → AllBelow 256 bs → number_at bs < 2 ^ 32
 number_small bs h = omega (arith, h 0, h 1, h 2, h 3)
 
-below_cons : (m x : ℕ) (xs : List ℕ) → x < m → AllBelow m xs → AllBelow m (x ∷ xs)
+pub below_cons : (m x : ℕ) (xs : List ℕ) → x < m → AllBelow m xs → AllBelow m (x ∷ xs)
 below_cons m x xs l h = go
   where
     go : AllBelow m (x ∷ xs)
@@ -45,10 +47,11 @@ module _ (bs cs ds es lists nodes : List ℕ) (n : ℕ) (h : AllBelow 256 bs)
   below_ds : AllBelow 256 ds
   below_ds = rw some.1.1 (below_drop 256 (4 * some.0) cs below_cs)
 
-  read_book : n ≤ 131072 → IsBook lists nodes
-  read_book few =
+  read_book : n ≤ 131072 → check_told lists nodes ≡ None → IsBook lists nodes
+  read_book few told =
       let z : nodes ≡ n ∷ numbers_in (5 * n) ds = rest.0 in
       record {
+        told = told;
         few = rw z few;
         whole = rw z (omega (arith, numbers_long (5 * n) ds));
         small_lists = rw some.1.0 (numbers_small some.0 cs below_cs);
@@ -106,11 +109,28 @@ three_parts lists (n ∷ ns) a b d bs cs ds es l i j k z p q r =
     r ∙ rw (q, u, k, v, j) (append_assoc (four n) (bytes_of lists) (bytes_of ns) ∙ ap (λ (t : List ℕ). four n ++ t) (sym (bytes_add lists ns)))
 
 -- what is read is a book, and the bytes are those that it is written as
-pub was_read : (bytes bs cs ds es lists nodes : List ℕ) (n : ℕ) → ((k : ℕ) → Fits w8 (get_or bytes k 0)) → bs ≡ bytes →
-    (4 ≤ length bs) × (n ≡ number_at bs) × (cs ≡ drop 4 bs) → ReadSome cs [] ds lists → ReadOn (5 * n) ds (n ∷ []) es nodes → length es ≡ 0 → n ≤ 131072 →
+pub was_read : (bytes bs cs ds es lists nodes : List ℕ) (n : ℕ) → AllBelow 256 bs → bs ≡ bytes →
+    (4 ≤ length bs) × (n ≡ number_at bs) × (cs ≡ drop 4 bs) → ReadSome cs [] ds lists → ReadOn (5 * n) ds (n ∷ []) es nodes → length es ≡ 0 → n ≤ 131072 → check_told lists nodes ≡ None →
     IsBook lists nodes × (bytes ≡ book_bytes lists nodes)
-was_read bytes bs cs ds es lists nodes n fit e t some rest done few =
-    let h : AllBelow 256 bs = λ k. let f = fit k in rw e (omega arith) in (
-      read_book bs cs ds es lists nodes n h t.0 t.1 t.2 some rest done few,
-      sym e ∙ read_bytes bs cs ds es lists nodes n h t.0 t.1 t.2 some rest done,
-    )
+was_read bytes bs cs ds es lists nodes n h e t some rest done few told = (
+  read_book bs cs ds es lists nodes n h t.0 t.1 t.2 some rest done few told,
+  sym e ∙ read_bytes bs cs ds es lists nodes n h t.0 t.1 t.2 some rest done,
+)
+
+-- the numbers of an entry
+pub record IsEntry (nodes : List ℕ) (node : ℕ) : Type 0 where
+  pub few : count nodes ≤ 255
+  pub whole : length nodes ≡ 1 + 5 * count nodes
+  pub small_nodes : AllBelow (2 ^ 32) nodes
+  pub small : node < 2 ^ 32
+
+pub entry_small : (bs cs ds nodes : List ℕ) (n b node : ℕ) → AllBelow 256 bs → AllBelow 256 cs → AllBelow 256 ds → b ≡ get_or bs 0 0 → n ≡ b →
+    ReadOn (5 * n) cs (n ∷ []) ds nodes → node ≡ number_at ds → IsEntry nodes node
+entry_small bs cs ds nodes n b node h g k is e r m =
+    let l : n < 256 = rw (e, is) (h 0) in
+    record {
+      few = rw r.0 (omega arith);
+      whole = rw r.0 (omega (arith, numbers_long (5 * n) cs));
+      small_nodes = rw r.0 (below_cons (2 ^ 32) n (numbers_in (5 * n) cs) (omega arith) (numbers_small (5 * n) cs g));
+      small = rw m (number_small ds k);
+    }

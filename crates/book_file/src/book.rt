@@ -1,7 +1,9 @@
 // A book in memory, read from bytes and written as bytes.
-ghost use Rattle.std.specs.Prelude.{◌≡◌, ◌+◌, ◌*◌, ◌^◌, ◌≤◌, length};
+ghost use Rattle.std.specs.Prelude.{◌≡◌, ◌+◌, ◌*◌, ◌^◌, ◌≤◌, None, length};
 ghost use Rattle.condition.specs.Store.{count};
+ghost use Rattle.list.specs.Layout.{check_told};
 ghost use Rattle.file_bytes.specs.Numbers.{AllBelow};
+ghost use Rattle.std.proofs.Props.{props};
 
 use condition::Refusal;
 use file_bytes::{Input, put_numbers, read_lists, read_nodes};
@@ -16,6 +18,7 @@ const MOST_LINES: u64 = 64;
 pub struct Book {
     pub lists: Vec<u64>,
     pub nodes: Vec<u64>,
+    pub ghost told: { check_told lists.items nodes.items ≡ None } by { Prim.hlevel props },
     pub ghost few: { count nodes.items ≤ 131072 },
     pub ghost whole: { length nodes.items ≡ 1 + 5 * count nodes.items },
     pub ghost small_lists: { AllBelow (2 ^ 32) lists.items },

@@ -2,5 +2,8 @@
 #![tactic(auto)]
 
 mod book;
+mod entry;
+mod learning;
 
 pub use book::Book;
+pub use entry::Entry;

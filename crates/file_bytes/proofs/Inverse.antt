@@ -1,11 +1,9 @@
 -- Numbers as bytes and back.
 use Rattle.std.proofs.Common.{◌≡◌, ℕ, zero, suc, ◌+◌, ◌*◌, ◌<◌, ◌≤◌, ◌^◌, List, [], ◌∷◌, ◌++◌, length, get_or, take, drop, sym, refl, ap, ◌∙◌, append_assoc, arith, length-drop}
-use Rattle.std.proofs.lemmas.List.{drop-drop, get_or-drop, append-nil, take_more}
+use Rattle.std.proofs.lemmas.List.{drop-drop, append-nil, take_more}
 use Rattle.std.proofs.lemmas.Nat.{from_le_bytes-to_le_bytes_4, le_bytes_4}
 use Rattle.file_bytes.specs.Numbers.{number_at, numbers_in, AllBelow, four, bytes_of, WrittenRead, ReadWritten}
-
-pub below_drop : (m k : ℕ) (xs : List ℕ) → AllBelow m xs → AllBelow m (drop k xs)
-below_drop m k xs h = λ i. rw (get_or-drop k xs i 0) (h (k + i))
+use Rattle.file_bytes.proofs.Reading.{below_drop}
 
 four_read : (n : ℕ) (bs : List ℕ) → n < 2 ^ 32 → number_at (four n ++ bs) ≡ n
 four_read n bs l = let e = from_le_bytes-to_le_bytes_4 n l in omega arith

@@ -1,7 +1,7 @@
 -- Numbers read one after the other from the bytes that are left.
 use Rattle.std.proofs.Common.{◌≡◌, ℕ, zero, suc, ◌+◌, ◌*◌, ◌≤◌, List, [], ◌∷◌, ◌++◌, length, drop, sym, refl, ap, ◌∙◌, append_assoc, arith, length-drop}
-use Rattle.std.proofs.lemmas.List.{drop-drop, append-nil}
-use Rattle.file_bytes.specs.Numbers.{number_at, numbers_in, ReadOn, ReadSome}
+use Rattle.std.proofs.lemmas.List.{drop-drop, get_or-drop, append-nil}
+use Rattle.file_bytes.specs.Numbers.{number_at, numbers_in, ReadOn, ReadSome, AllBelow}
 
 numbers_add : (n m : ℕ) (bs : List ℕ) → numbers_in (n + m) bs ≡ numbers_in n bs ++ numbers_in m (drop (4 * n) bs)
 unfolding numbers_in
@@ -30,3 +30,13 @@ read_both n m bs xs cs ys ds zs r s = (
 
 pub some_both : (bs xs cs ys ds zs : List ℕ) → ReadSome bs xs cs ys → ReadSome cs ys ds zs → ReadSome bs xs ds zs
 some_both bs xs cs ys ds zs r s = (r.0 + s.0, read_both r.0 s.0 bs xs cs ys ds zs r.1 s.1)
+
+-- what is left of numbers below m
+pub below_drop : (m k : ℕ) (xs : List ℕ) → AllBelow m xs → AllBelow m (drop k xs)
+below_drop m k xs h = λ i. rw (get_or-drop k xs i 0) (h (k + i))
+
+pub below_rest : (m k : ℕ) (xs ys : List ℕ) → ys ≡ drop k xs → AllBelow m xs → AllBelow m ys
+below_rest m k xs ys e h = rw e (below_drop m k xs h)
+
+pub below_behind : (m : ℕ) (xs ys : List ℕ) (x : ℕ) → xs ≡ x ∷ ys → AllBelow m xs → AllBelow m ys
+below_behind m xs ys x e h = below_rest m 1 xs ys (rw e refl) h

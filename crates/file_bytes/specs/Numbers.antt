@@ -5,12 +5,15 @@
 --   numbers_in n bs     the numbers in the first 4 n bytes
 --   ReadOn n bs xs cs ys     n numbers were read: ys is xs with them behind it, and cs are the bytes left
 --   ReadSome bs xs cs ys     some numbers were read so
+--   Cut n bs missing e       the refusal e is told in the place of n numbers: missing, where the bytes bs hold fewer, or want of memory
 --   AllBelow m xs       each of the numbers xs is below m
 --   four n              the four bytes of a number, low byte first
 --   bytes_of ns         the bytes of the numbers ns, one number after the other
 --   WrittenRead         the bytes of numbers below 2^32 are read as these numbers
 --   ReadWritten         the numbers in some bytes have these bytes
-use Rattle.std.specs.Prelude.{◌≡◌, ℕ, zero, suc, ◌+◌, ◌*◌, ◌/◌, ◌%◌, ◌^◌, ◌<◌, ◌≤◌, List, [], ◌∷◌, ◌++◌, length, drop, Some, None, Option, slice_index}
+use Rattle.std.specs.Prelude.{◌⊎◌, ◌≡◌, ℕ, zero, suc, ◌+◌, ◌*◌, ◌/◌, ◌%◌, ◌^◌, ◌<◌, ◌≤◌, List, [], ◌∷◌, ◌++◌, length, drop, Some, None, Option, slice_index}
+use Rattle.condition.specs.declared.Refusal.{Refusal}
+use Rattle.condition.specs.declared.Refusal.TheVariants.{NoMemory}
 
 abbrev pub number_at : List ℕ → ℕ
 number_at bs = slice_index bs 0 + 256 * slice_index bs 1 + 65536 * (slice_index bs 2 + 256 * slice_index bs 3)
@@ -29,6 +32,9 @@ ReadOn n bs xs cs ys = (ys ≡ xs ++ numbers_in n bs) × (cs ≡ drop (4 * n) bs
 -- some numbers were read
 abbrev pub ReadSome : (bs xs cs ys : List ℕ) → Type 0
 ReadSome bs xs cs ys = (n : ℕ) × ReadOn n bs xs cs ys
+
+abbrev pub Cut : ℕ → List ℕ → (missing e : Refusal) → Type 0
+Cut n bs missing e = (e ≡ NoMemory) ⊎ ((e ≡ missing) × (length bs < 4 * n))
 
 abbrev pub AllBelow : ℕ → List ℕ → Type 0
 AllBelow m xs = (k : ℕ) → slice_index xs k < m

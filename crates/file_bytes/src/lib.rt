@@ -1,8 +1,9 @@
 // The binary format of the programs: numbers of four bytes, lists, nodes.
 #![tactic(auto)]
 
-ghost use Rattle.std.specs.Prelude.{◌≡◌, ◌*◌, ◌≤◌, [], ◌∷◌, length, IfOk, OnOk, slice_index};
-ghost use Rattle.file_bytes.specs.Numbers.{number_at, Taken, ReadOn, ReadSome, WrittenRead, ReadWritten};
+ghost use Rattle.std.specs.Prelude.{◌≡◌, ◌*◌, ◌≤◌, [], ◌∷◌, length, IfErr, IfOk, OnOk, slice_index};
+ghost use Rattle.condition.specs.declared.Refusal.TheVariants.{BadStore};
+ghost use Rattle.file_bytes.specs.Numbers.{number_at, Taken, ReadOn, ReadSome, Cut, AllBelow, WrittenRead, ReadWritten};
 
 use condition::{MOST_NODES, Refusal};
 use std::alloc::Global;
@@ -15,6 +16,7 @@ pub use writing::{put, put_numbers};
 #[derive(Clone, Copy)]
 pub struct Input<'a> {
     rest: &'a [u8],
+    pub ghost bytes: { AllBelow 256 rest.now },
 }
 
 impl<'a> Input<'a> {
@@ -51,7 +53,8 @@ impl<'a> Input<'a> {
 
     // The next number, put behind those in `numbers`; refused with `missing` where none is left.
     pub fn next(&mut self, numbers: &mut Vec<u64>, missing: Refusal) -> Result<u64, Refusal>
-        ensures { IfOk result (λ n. (n ≡ number_at self.old.rest.now) × ReadOn 1 self.old.rest.now numbers.old.items self.new.rest.now numbers.new.items) }
+        ensures read { IfOk result (λ n. (n ≡ number_at self.old.rest.now) × ReadOn 1 self.old.rest.now numbers.old.items self.new.rest.now numbers.new.items) }
+        ensures refused { IfErr result (Cut 1 self.old.rest.now missing) }
     {
         let number = self.number().ok_or(missing)?;
         numbers.push(number)?;
@@ -65,7 +68,8 @@ impl<'a> Input<'a> {
         numbers: &mut Vec<u64>,
         missing: Refusal,
     ) -> Result<(), Refusal>
-        ensures { OnOk result (ReadOn n self.old.rest.now numbers.old.items self.new.rest.now numbers.new.items) }
+        ensures read { OnOk result (ReadOn n self.old.rest.now numbers.old.items self.new.rest.now numbers.new.items) }
+        ensures refused { IfErr result (Cut n self.old.rest.now missing) }
     {
         for _ in 0..n {
             self.next(numbers, missing)?;
@@ -121,6 +125,7 @@ fn read_list(input: &mut Input, i: u64, most: u64, lists: &mut Vec<u64>) -> Resu
 pub fn read_nodes(heap: Global, input: &mut Input, count: u64) -> Result<Vec<u64>, Refusal>
     ensures few { OnOk result (count ≤ 131072) }
     ensures read { IfOk result (λ v. ReadOn (5 * count) input.old.rest.now (count ∷ []) input.new.rest.now v.items) }
+    ensures refused { IfErr result (λ e. count ≤ 131072 → Cut (5 * count) input.old.rest.now (BadStore count) e) }
 {
     if count > MOST_NODES {
         return Err(Refusal::BadStore(count));

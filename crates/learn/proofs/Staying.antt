@@ -1,4 +1,4 @@
--- Lists and answers mean the same in a grown store.
+-- Lists and answers mean the same in a store where all conditions that stood are what they were, as in a grown one.
 use Rattle.std.proofs.Common.{◌≡◌, ℕ, zero, suc, ◌+◌, ◌<◌, true, ltb, List, length, get_or, drop, set, refl, ◌∙◌, arith}
 use Rattle.std.proofs.lemmas.Bool.{ltb-true, and_parts}
 use Rattle.std.proofs.lemmas.List.{get_or-set_same, get_or-set_other, length-set, drop-set-lt}
@@ -11,15 +11,15 @@ use Rattle.list.proofs.Fitting.{pass_parts, all_named}
 use Rattle.answer.proofs.Known.{fits_less, more_known}
 use Rattle.learn.specs.Learning.{learned, Learnable, Narrowed, Learned}
 
-module _ (ns ns₁ : List ℕ) (g : Grown ns ns₁) where
-  lines_stay : (n w : ℕ) (xs : List ℕ) → lines_named (count ns) n w xs ≡ true → lines_in ns₁ n w xs ≡ lines_in ns n w xs
+module _ (ns ns₁ : List ℕ) (same : (j : ℕ) → j < count ns → cond_at ns₁ j ≡ cond_at ns j) where
+  pub lines_stay : (n w : ℕ) (xs : List ℕ) → lines_named (count ns) n w xs ≡ true → lines_in ns₁ n w xs ≡ lines_in ns n w xs
   unfolding lines_in lines_named
   lines_stay zero w xs h = refl
   lines_stay (suc n) w xs h =
       let p = and_parts (ltb (get_or xs 0 0) (count ns)) (lines_named (count ns) n w (drop (line_size w) xs)) h in
-      rw (grown_cond ns ns₁ g (get_or xs 0 0) (ltb-true (get_or xs 0 0) (count ns) p.0), lines_stay n w (drop (line_size w) xs) p.1) refl
+      rw (same (get_or xs 0 0) (ltb-true (get_or xs 0 0) (count ns) p.0), lines_stay n w (drop (line_size w) xs) p.1) refl
 
-  lists_stay : (k : ℕ) (xs : List ℕ) → passing (list_named (count ns)) k xs ≡ k → lists_in ns₁ k xs ≡ lists_in ns k xs
+  pub lists_stay : (k : ℕ) (xs : List ℕ) → passing (list_named (count ns)) k xs ≡ k → lists_in ns₁ k xs ≡ lists_in ns k xs
   unfolding lists_in list_named
   lists_stay zero xs h = refl
   lists_stay (suc k) xs h =
@@ -57,8 +57,8 @@ learned_leaves lists ns new p ns₁ l g e f h =
       rest = λ j ne. get_or-set_other lists 1 j p 0 ne;
       unchanged = record {
         conditions = grown_cond ns ns₁ g;
-        all = all_same lists p ns₁ ∙ lists_stay ns ns₁ g (get_or lists 0 0) (drop 2 lists) n.0;
-        lines = lines_stay ns ns₁ g;
+        all = all_same lists p ns₁ ∙ lists_stay ns ns₁ (grown_cond ns ns₁ g) (get_or lists 0 0) (drop 2 lists) n.0;
+        lines = lines_stay ns ns₁ (grown_cond ns ns₁ g);
       };
       narrowed = rw k (narrowed (known_in ns lists) (cond_at ns new));
     }

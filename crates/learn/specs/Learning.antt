@@ -11,8 +11,15 @@
 --   Learned lists nodes new lists₁ nodes₁   the lists and the store once node new is learned
 use Rattle.std.specs.Prelude.{◌≡◌, ◌≢◌, ℕ, ◌+◌, ◌*◌, ◌<◌, ◌≤◌, true, false, ◌⊎◌, List, [], ◌∷◌, length, Some, None, Result, MatchResult, nat_lt, slice_index}
 use Rattle.condition.specs.Cond.{Cond, both}
+--   Placed lists nodes new lists₁ nodes₁    the node that then is what is known stands behind all that stood
+--   write_cell k n a     the cell a with the number n for the gap k
+--   write_cond, write_lines, write_lists     the same in a condition, in lines, in lists
+use Rattle.std.specs.Prelude.{◌≡◌, ◌≢◌, ℕ, ◌+◌, ◌*◌, ◌<◌, ◌≤◌, true, false, cond as if, ◌⊎◌, List, [], ◌∷◌, length, Some, None, Result, MatchResult, ◌==◌, nat_lt, slice_index}
+use Rattle.condition.specs.Cond.{Cell, known, gap, Cond, both, each_cell}
 use Rattle.condition.specs.Refusals.{Told, told, first, unless}
 use Rattle.condition.specs.Store.{count, cond_at, store_fits, room_told, Grown}
+use Rattle.condition.specs.Nodes.{five}
+use Rattle.condition.specs.declared.Node.TheVariants.{Both}
 use Rattle.condition.specs.declared.Refusal.{Refusal}
 use Rattle.condition.specs.declared.Refusal.TheVariants.{WouldNotFit, NoMemory}
 use Rattle.evaluate.specs.Filling.{Filling, holds}
@@ -72,6 +79,11 @@ pub record Learned (lists nodes : List ℕ) (new : ℕ) (lists₁ nodes₁ : Lis
   pub rest : (k : ℕ) → k ≢ 1 → slice_index lists₁ k ≡ slice_index lists k
   pub unchanged : Unchanged lists nodes lists₁ nodes₁
   pub narrowed : Narrowed (known_in nodes lists) (known_in nodes₁ lists₁)
+
+pub record Placed (lists nodes : List ℕ) (new : ℕ) (lists₁ nodes₁ : List ℕ) : Type 0 where
+  pub place : slice_index lists₁ 1 ≡ count nodes
+  -- both of the old and the new
+  pub numbers : (k : ℕ) → k < 5 → slice_index nodes₁ (1 + 5 * count nodes + k) ≡ slice_index (five (Both (slice_index lists 1) new)) k
 
 -- a call that may also want memory is done where nothing is told and some filling fits, and else tells the first that applies: want
 -- of memory behind these numbers, and 10 where no filling would fit any more

@@ -1,6 +1,6 @@
 // Learning: what is known grows by the condition of a node.
 ghost use Rattle.std.specs.Prelude.{◌≡◌, OnErr, OnOk};
-ghost use Rattle.learn.specs.Learning.{LearnTold, Learnable, Learned};
+ghost use Rattle.learn.specs.Learning.{LearnTold, Learnable, Learned, Placed};
 
 use condition::{Node, Refusal, add, room};
 use decide::decide_row;
@@ -13,6 +13,7 @@ pub fn learn(heap: Global, lists: &mut [u64], nodes: &mut [u64], new: u64) -> Re
     ensures refusal { LearnTold lists.old nodes.old new result }
     ensures kept { OnErr result ((lists.new ≡ lists.old) × (nodes.new ≡ nodes.old)) }
     ensures learned { OnOk result (Learned lists.old nodes.old new lists.new nodes.new) }
+    ensures placed { OnOk result (Placed lists.old nodes.old new lists.new nodes.new) }
 {
     check_new(heap, lists, nodes, new)?;
     let known = add(nodes, Node::Both(lists[1], new));

@@ -10,5 +10,5 @@ started bs xs cs ys e r = rw e at r
 pub returns : goal.returns
 returns c =
     started _ (vec_items c.new-lists.result) _ _ c.new-lists.ensures.items
-    (some_both _ _ _ _ _ _ (1, c.in_ok-count.ensures.1)
-    (some_both _ _ _ _ _ _ (1, c.in_ok-next.ensures.1) c.in_ok-read_each.ensures))
+    (some_both _ _ _ _ _ _ (1, c.in_ok-count.ensures.read.1)
+    (some_both _ _ _ _ _ _ (1, c.in_ok-next.ensures.read.1) c.in_ok-read_each.ensures))

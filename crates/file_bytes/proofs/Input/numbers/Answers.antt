@@ -6,9 +6,9 @@ pub loop-init : goal.loop-init
 loop-init c = read_none _ _
 
 pub loop-preserved : goal.loop-preserved
-loop-preserved c = read_both _ 1 _ _ _ _ _ _ c.loop.invariant c.in_ok-next.ensures.1
+loop-preserved c = read_both _ 1 _ _ _ _ _ _ c.loop.invariant c.in_ok-next.ensures.read.1
 
-pub returns : goal.returns
-returns c =
+pub returns-clause-read : goal.returns-clause-read
+returns-clause-read c =
     let n : c.loop.counter ≡ c.args.n = omega arith in
     rw n at c.loop.invariant
