@@ -18,7 +18,7 @@ pub struct Place {
 
 impl Place {
     // A link stays a link: the file that it leads to is the one that is written.
-    pub fn of(rt: &HostRuntime, path: &str) -> anyhow::Result<Place> {
+    pub fn of(rt: &HostRuntime, path: &str) -> io::Result<Place> {
         let file = fs::canonicalize(rt, path)?;
         let new = format!(in rt.alloc(); "{}.new", file.display())?;
         let mut folder = fs::canonicalize(rt, path)?;

@@ -22,12 +22,10 @@ fn main(rt: HostRuntime) -> anyhow::Result<()> {
 
 // Reads the book, and learns each entry into it; or tells why it is none.
 fn learn_into(rt: &HostRuntime, path: &str) -> anyhow::Result<()> {
+    let place = Place::of(rt, path).context(format_args!("the book {path} can't be found"))?;
     let bytes = fs::read(rt, path).context(format_args!("the book {path} can't be read"))?;
     match Book::read(rt.alloc(), &bytes) {
-        Ok(mut book) => {
-            let place = Place::of(rt, path)?;
-            learn_all(rt, &mut book, &place)
-        }
+        Ok(mut book) => learn_all(rt, &mut book, &place),
         Err(refusal) => Ok(rt.println(refusal)?),
     }
 }
@@ -36,7 +34,9 @@ fn learn_into(rt: &HostRuntime, path: &str) -> anyhow::Result<()> {
 fn learn_all(rt: &HostRuntime, book: &mut Book, place: &Place) -> anyhow::Result<()> {
     let heap = rt.alloc();
     let mut bytes = Vec::new(heap);
-    rt.stdin().read_to_end(&mut bytes)?;
+    rt.stdin()
+        .read_to_end(&mut bytes)
+        .context("the entries can't be read")?;
     let mut input = Input::new(&bytes);
     while input.left() > 0 {
         match Entry::read(heap, &mut input) {
