@@ -3,7 +3,9 @@ use Rattle.std.proofs.Common.{◌≡◌, ℕ, zero, suc, ◌+◌, ◌-◌, ◌*�
 use Rattle.std.proofs.lemmas.List.{append-nil, take_at, drop_at, take_rest, nil_from_length}
 use Rattle.condition.specs.Store.{count}
 use Rattle.list.specs.Layout.{check_told}
-use Rattle.file_bytes.specs.Numbers.{number_at, numbers_in, ReadOn, ReadSome, AllBelow, four, bytes_of}
+use Rattle.file_bytes.specs.Numbers.{number_at, numbers_in, ReadOn, AllBelow, four, bytes_of}
+use Rattle.file_bytes.specs.Listing.{lists_long, AllThere, lists_in_file, ListsThere}
+use Rattle.file_bytes.proofs.There.{all_less}
 use Rattle.file_bytes.proofs.Reading.{below_drop}
 use Rattle.file_bytes.proofs.Inverse.{bytes_read, bytes_written, bytes_add, bytes_long}
 use Rattle.book_file.specs.Books.{IsBook, book_bytes}
@@ -37,25 +39,70 @@ whole_store : (nodes : List ℕ) → 1 ≤ length nodes → nodes ≡ count node
 whole_store [] l = absurd (omega arith)
 whole_store (n ∷ ns) l = refl
 
+-- what lists and nodes have that are the numbers of some bytes
+pub record Sized (lists nodes : List ℕ) : Type 0 where
+  pub whole : length nodes ≡ 1 + 5 * count nodes
+  pub small_lists : AllBelow (2 ^ 32) lists
+  pub small_nodes : AllBelow (2 ^ 32) nodes
+
+pub sized : (lists nodes : List ℕ) → IsBook lists nodes → Sized lists nodes
+sized lists nodes b = record { whole = b.whole; small_lists = b.small_lists; small_nodes = b.small_nodes }
+
+numbers_first : (n : ℕ) (bs : List ℕ) → 1 ≤ n → get_or (numbers_in n bs) 0 0 ≡ number_at bs
+unfolding numbers_in
+numbers_first zero bs l = absurd (omega arith)
+numbers_first (suc n) bs l = refl
+
+pub behind_two : (lists ds : List ℕ) → 2 ≤ length lists → drop 8 (bytes_of lists ++ ds) ≡ bytes_of (drop 2 lists) ++ ds
+unfolding bytes_of
+behind_two [] ds l = absurd (omega arith)
+behind_two (x ∷ []) ds l = absurd (omega arith)
+behind_two (x ∷ (y ∷ zs)) ds l = refl
+
+-- lists that were read take all their numbers
+read_listed : (cs ds lists : List ℕ) → AllBelow 256 cs → ReadOn (lists_in_file cs) cs [] ds lists → ListsThere 64 cs →
+    AllThere 64 (get_or lists 0 0) (bytes_of (drop 2 lists)) × (length lists ≡ 2 + lists_long (get_or lists 0 0) (bytes_of (drop 2 lists)))
+read_listed cs ds lists h r t =
+    let n : length lists ≡ lists_in_file cs = ap length r.0 ∙ numbers_long (lists_in_file cs) cs in
+    let f : get_or lists 0 0 ≡ number_at cs = ap (λ (u : List ℕ). get_or u 0 0) r.0 ∙ numbers_first (lists_in_file cs) cs (omega arith) in
+    let a : bytes_of lists ++ ds ≡ cs = rw (r.0, r.1) (bytes_written (lists_in_file cs) cs h r.2) in
+    let b : drop 8 cs ≡ bytes_of (drop 2 lists) ++ ds = ap (drop 8) (sym a) ∙ behind_two lists ds (omega arith) in
+    let u : AllThere 64 (number_at cs) (bytes_of (drop 2 lists) ++ ds) = rw (← b) t.3 in
+    let v : length lists ≡ 2 + lists_long (number_at cs) (bytes_of (drop 2 lists) ++ ds) = rw (← b) n in
+    let l = all_less 64 (number_at cs) (bytes_of (drop 2 lists)) ds u (omega (arith, v, bytes_long (drop 2 lists), length-drop 2 lists)) in
+    (rw f l.0, rw f (rw l.1 v))
+
 -- from bytes to a book
 module _ (bs cs ds es lists nodes : List ℕ) (n : ℕ) (h : AllBelow 256 bs)
     (long : 4 ≤ length bs) (is : n ≡ number_at bs) (after : cs ≡ drop 4 bs)
-    (some : ReadSome cs [] ds lists) (rest : ReadOn (5 * n) ds (n ∷ []) es nodes) (done : length es ≡ 0) where
+    (all : ReadOn (lists_in_file cs) cs [] ds lists) (rest : ReadOn (5 * n) ds (n ∷ []) es nodes) (done : length es ≡ 0) where
   below_cs : AllBelow 256 cs
   below_cs = rw after (below_drop 256 4 bs h)
 
   below_ds : AllBelow 256 ds
-  below_ds = rw some.1.1 (below_drop 256 (4 * some.0) cs below_cs)
+  below_ds = rw all.1 (below_drop 256 (4 * lists_in_file cs) cs below_cs)
 
-  read_book : n ≤ 131072 → check_told lists nodes ≡ None → IsBook lists nodes
-  read_book few told =
+  read_sized : Sized lists nodes
+  read_sized =
       let z : nodes ≡ n ∷ numbers_in (5 * n) ds = rest.0 in
       record {
-        told = told;
-        few = rw z few;
         whole = rw z (omega (arith, numbers_long (5 * n) ds));
-        small_lists = rw some.1.0 (numbers_small some.0 cs below_cs);
+        small_lists = rw all.0 (numbers_small (lists_in_file cs) cs below_cs);
         small_nodes = rw z (below_cons (2 ^ 32) n (numbers_in (5 * n) ds) (rw is (number_small bs h)) (numbers_small (5 * n) ds below_ds));
+      }
+
+  read_book : n ≤ 131072 → check_told lists nodes ≡ None → ListsThere 64 cs → IsBook lists nodes
+  read_book few told there =
+      let s = read_sized in
+      let l = read_listed cs ds lists below_cs all there in
+      record {
+        told = told;
+        there = l.0;
+        exact = l.1;
+        few = rw rest.0 few;
+        whole = s.whole;
+        small_lists = s.small_lists;
+        small_nodes = s.small_nodes;
       }
 
   first_four : bs ≡ four n ++ cs
@@ -65,7 +112,7 @@ module _ (bs cs ds es lists nodes : List ℕ) (n : ℕ) (h : AllBelow 256 bs)
   read_bytes : bs ≡ book_bytes lists nodes
   unfolding bytes_of
   read_bytes =
-      let a : bytes_of lists ++ ds ≡ cs = rw (some.1.0, some.1.1) (bytes_written some.0 cs below_cs some.1.2) in
+      let a : bytes_of lists ++ ds ≡ cs = rw (all.0, all.1) (bytes_written (lists_in_file cs) cs below_cs all.2) in
       let b : bytes_of (drop 1 nodes) ++ es ≡ ds = rw (rest.0, rest.1) (bytes_written (5 * n) ds below_ds rest.2) in
       let e : es ≡ [] = nil_from_length es done in
       let c : bytes_of (drop 1 nodes) ≡ ds = sym (append-nil (bytes_of (drop 1 nodes))) ∙ (ap (λ (t : List ℕ). bytes_of (drop 1 nodes) ++ t) (sym e) ∙ b) in
@@ -81,12 +128,12 @@ same_numbers xs ys h g e =
     ∙ (ap (λ (t : List ℕ). numbers_in (length xs) (t ++ [])) e
     ∙ (ap (λ (t : ℕ). numbers_in t (bytes_of ys ++ [])) n ∙ (bytes_read ys [] g).0))
 
-book_below : (lists nodes : List ℕ) → IsBook lists nodes → AllBelow (2 ^ 32) (count nodes ∷ (lists ++ drop 1 nodes))
+book_below : (lists nodes : List ℕ) → Sized lists nodes → AllBelow (2 ^ 32) (count nodes ∷ (lists ++ drop 1 nodes))
 book_below lists nodes b =
     below_cons (2 ^ 32) (count nodes) (lists ++ drop 1 nodes) (b.small_nodes 0)
     (below_append (2 ^ 32) lists (drop 1 nodes) b.small_lists (below_drop (2 ^ 32) 1 nodes b.small_nodes))
 
-pub same_book : (lists nodes ls ns : List ℕ) → IsBook lists nodes → IsBook ls ns → book_bytes lists nodes ≡ book_bytes ls ns → (lists ≡ ls) × (nodes ≡ ns)
+pub same_book : (lists nodes ls ns : List ℕ) → Sized lists nodes → Sized ls ns → book_bytes lists nodes ≡ book_bytes ls ns → (lists ≡ ls) × (nodes ≡ ns)
 same_book lists nodes ls ns a b e =
     let s : count nodes ∷ (lists ++ drop 1 nodes) ≡ count ns ∷ (ls ++ drop 1 ns) = same_numbers _ _ (book_below lists nodes a) (book_below ls ns b) e in
     let c : count nodes ≡ count ns = ap (λ (t : List ℕ). get_or t 0 0) s in
@@ -108,13 +155,21 @@ three_parts lists (n ∷ ns) a b d bs cs ds es l i j k z p q r =
     let v : take (length (n ∷ ns) - 1) (drop 1 (n ∷ ns)) ≡ ns = take_rest (n ∷ ns) 1 in
     r ∙ rw (q, u, k, v, j) (append_assoc (four n) (bytes_of lists) (bytes_of ns) ∙ ap (λ (t : List ℕ). four n ++ t) (sym (bytes_add lists ns)))
 
+pub was_sized : (bytes bs cs ds es lists nodes : List ℕ) (n : ℕ) → AllBelow 256 bs → bs ≡ bytes →
+    (4 ≤ length bs) × (n ≡ number_at bs) × (cs ≡ drop 4 bs) → ReadOn (lists_in_file cs) cs [] ds lists → ReadOn (5 * n) ds (n ∷ []) es nodes → length es ≡ 0 →
+    Sized lists nodes × (bytes ≡ book_bytes lists nodes)
+was_sized bytes bs cs ds es lists nodes n h e t all rest done = (
+  read_sized bs cs ds es lists nodes n h t.0 t.1 t.2 all rest done,
+  sym e ∙ read_bytes bs cs ds es lists nodes n h t.0 t.1 t.2 all rest done,
+)
+
 -- what is read is a book, and the bytes are those that it is written as
 pub was_read : (bytes bs cs ds es lists nodes : List ℕ) (n : ℕ) → AllBelow 256 bs → bs ≡ bytes →
-    (4 ≤ length bs) × (n ≡ number_at bs) × (cs ≡ drop 4 bs) → ReadSome cs [] ds lists → ReadOn (5 * n) ds (n ∷ []) es nodes → length es ≡ 0 → n ≤ 131072 → check_told lists nodes ≡ None →
+    (4 ≤ length bs) × (n ≡ number_at bs) × (cs ≡ drop 4 bs) → ReadOn (lists_in_file cs) cs [] ds lists → ReadOn (5 * n) ds (n ∷ []) es nodes → length es ≡ 0 → n ≤ 131072 → check_told lists nodes ≡ None → ListsThere 64 cs →
     IsBook lists nodes × (bytes ≡ book_bytes lists nodes)
-was_read bytes bs cs ds es lists nodes n h e t some rest done few told = (
-  read_book bs cs ds es lists nodes n h t.0 t.1 t.2 some rest done few told,
-  sym e ∙ read_bytes bs cs ds es lists nodes n h t.0 t.1 t.2 some rest done,
+was_read bytes bs cs ds es lists nodes n h e t all rest done few told there = (
+  read_book bs cs ds es lists nodes n h t.0 t.1 t.2 all rest done few told there,
+  sym e ∙ read_bytes bs cs ds es lists nodes n h t.0 t.1 t.2 all rest done,
 )
 
 -- the numbers of an entry

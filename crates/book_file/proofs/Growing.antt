@@ -44,12 +44,12 @@ module _ (c d : ℕ) (more : c ≤ d) where
 -- lists that were told nothing of, with another node that stands as what is known
 module _ (lists ls ns ns₁ : List ℕ) (told : check_told lists ns ≡ None) (long : length ls ≡ length lists)
     (rest : (k : ℕ) → k ≢ 1 → get_or ls k 0 ≡ get_or lists k 0) where
-  behind_same : drop 2 ls ≡ drop 2 lists
+  pub behind_same : drop 2 ls ≡ drop 2 lists
   behind_same =
       same_number_lists (drop 2 ls) (drop 2 lists) (omega (arith, length-drop 2 ls, length-drop 2 lists))
       (λ k l. rw (get_or-drop 2 ls k 0, get_or-drop 2 lists k 0) (rest (2 + k) (λ e. omega arith)))
 
-  first_same : get_or ls 0 0 ≡ get_or lists 0 0
+  pub first_same : get_or ls 0 0 ≡ get_or lists 0 0
   first_same = rest 0 (λ e. omega arith)
 
   lists_fine : lists_told ls ≡ None
@@ -136,6 +136,8 @@ module _ (lists nodes new : List ℕ) (node : ℕ) (b : IsBook lists nodes) (e :
     pub learned_book : count new < 131072 - count nodes → IsBook ls ns
     learned_book room = record {
       told = still_fine lists ls nodes ns b.told d.long d.rest d.store (omega (arith, d.more)) (omega (arith, p.place, d.more));
+      there = rw (first_same lists ls nodes ns b.told d.long d.rest, behind_same lists ls nodes ns b.told d.long d.rest) b.there;
+      exact = d.long ∙ rw (first_same lists ls nodes ns b.told d.long d.rest, behind_same lists ls nodes ns b.told d.long d.rest) b.exact;
       few = omega (arith, d.more);
       whole = omega (arith, d.grown.long, d.more, with_long);
       small_lists = lists_small;

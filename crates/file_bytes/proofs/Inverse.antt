@@ -5,7 +5,7 @@ use Rattle.std.proofs.lemmas.Nat.{from_le_bytes-to_le_bytes_4, le_bytes_4}
 use Rattle.file_bytes.specs.Numbers.{number_at, numbers_in, AllBelow, four, bytes_of, WrittenRead, ReadWritten}
 use Rattle.file_bytes.proofs.Reading.{below_drop}
 
-four_read : (n : ℕ) (bs : List ℕ) → n < 2 ^ 32 → number_at (four n ++ bs) ≡ n
+pub four_read : (n : ℕ) (bs : List ℕ) → n < 2 ^ 32 → number_at (four n ++ bs) ≡ n
 four_read n bs l = let e = from_le_bytes-to_le_bytes_4 n l in omega arith
 
 four_written : (bs : List ℕ) → AllBelow 256 bs → 4 ≤ length bs → four (number_at bs) ++ drop 4 bs ≡ bs

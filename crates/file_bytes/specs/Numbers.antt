@@ -4,7 +4,6 @@
 --   Taken n bs r cs     what is left of the bytes bs once n of them were read, or none where there were fewer
 --   numbers_in n bs     the numbers in the first 4 n bytes
 --   ReadOn n bs xs cs ys     n numbers were read: ys is xs with them behind it, and cs are the bytes left
---   ReadSome bs xs cs ys     some numbers were read so
 --   Cut n bs missing e       the refusal e is told in the place of n numbers: missing, where the bytes bs hold fewer, or want of memory
 --   AllBelow m xs       each of the numbers xs is below m
 --   four n              the four bytes of a number, low byte first
@@ -28,10 +27,6 @@ numbers_in (suc n) bs = number_at bs ∷ numbers_in n (drop 4 bs)
 
 abbrev pub ReadOn : ℕ → (bs xs cs ys : List ℕ) → Type 0
 ReadOn n bs xs cs ys = (ys ≡ xs ++ numbers_in n bs) × (cs ≡ drop (4 * n) bs) × (4 * n ≤ length bs)
-
--- some numbers were read
-abbrev pub ReadSome : (bs xs cs ys : List ℕ) → Type 0
-ReadSome bs xs cs ys = (n : ℕ) × ReadOn n bs xs cs ys
 
 abbrev pub Cut : ℕ → List ℕ → (missing e : Refusal) → Type 0
 Cut n bs missing e = (e ≡ NoMemory) ⊎ ((e ≡ missing) × (length bs < 4 * n))

@@ -1,9 +1,10 @@
 // The binary format of the programs: numbers of four bytes, lists, nodes.
 #![tactic(auto)]
 
-ghost use Rattle.std.specs.Prelude.{◌≡◌, ◌*◌, ◌≤◌, [], ◌∷◌, length, IfErr, IfOk, OnOk, slice_index};
-ghost use Rattle.condition.specs.declared.Refusal.TheVariants.{BadStore};
-ghost use Rattle.file_bytes.specs.Numbers.{number_at, Taken, ReadOn, ReadSome, Cut, AllBelow, WrittenRead, ReadWritten};
+ghost use Rattle.std.specs.Prelude.{◌≡◌, ◌*◌, ◌≤◌, ◌⊎◌, [], ◌∷◌, length, IfErr, IfOk, OnOk, slice_index};
+ghost use Rattle.condition.specs.declared.Refusal.TheVariants.{BadLists, BadStore, NoMemory};
+ghost use Rattle.file_bytes.specs.Numbers.{number_at, Taken, ReadOn, Cut, AllBelow, WrittenRead, ReadWritten};
+ghost use Rattle.file_bytes.specs.Listing.{list_long, lists_long, ListThere, AllThere, EachTold, lists_in_file, ListsThere, ListsTold};
 
 use condition::{MOST_NODES, Refusal};
 use std::alloc::Global;
@@ -80,7 +81,9 @@ impl<'a> Input<'a> {
 
 // The lists of a file: their count, the node of what is known, and each list with at most `most` lines, and at most 64.
 pub fn read_lists(heap: Global, input: &mut Input, most: u64) -> Result<Vec<u64>, Refusal>
-    ensures { IfOk result (λ v. ReadSome input.old.rest.now [] input.new.rest.now v.items) }
+    ensures read { IfOk result (λ v. ReadOn (lists_in_file input.old.rest.now) input.old.rest.now [] input.new.rest.now v.items) }
+    ensures there { OnOk result (ListsThere most input.old.rest.now) }
+    ensures refused { IfErr result (ListsTold most input.old.rest.now) }
 {
     let mut lists = Vec::new(heap);
     let count = input.next(&mut lists, Refusal::BadLists(0))?;
@@ -98,7 +101,9 @@ pub fn read_lists(heap: Global, input: &mut Input, most: u64) -> Result<Vec<u64>
 // As many lists as `count` says, behind what is in `lists`.
 fn read_each(input: &mut Input, count: u64, most: u64, lists: &mut Vec<u64>) -> Result<(), Refusal>
     requires { most ≤ 64 }
-    ensures { OnOk result (ReadSome input.old.rest.now lists.old.items input.new.rest.now lists.new.items) }
+    ensures read { OnOk result (ReadOn (lists_long count input.old.rest.now) input.old.rest.now lists.old.items input.new.rest.now lists.new.items) }
+    ensures there { OnOk result (AllThere most count input.old.rest.now) }
+    ensures refused { IfErr result (EachTold most count input.old.rest.now) }
 {
     for i in 0..count {
         read_list(input, i, most, lists)?;
@@ -109,7 +114,9 @@ fn read_each(input: &mut Input, count: u64, most: u64, lists: &mut Vec<u64>) -> 
 // List number i: its lines, its columns and the lines, behind what is in `lists`.
 fn read_list(input: &mut Input, i: u64, most: u64, lists: &mut Vec<u64>) -> Result<(), Refusal>
     requires { most ≤ 64 }
-    ensures { OnOk result (ReadSome input.old.rest.now lists.old.items input.new.rest.now lists.new.items) }
+    ensures read { OnOk result (ReadOn (list_long input.old.rest.now) input.old.rest.now lists.old.items input.new.rest.now lists.new.items) }
+    ensures there { OnOk result (ListThere most input.old.rest.now) }
+    ensures refused { IfErr result (λ e. (e ≡ NoMemory) ⊎ ((e ≡ BadLists i) × (ListThere most input.old.rest.now → ⊥))) }
 {
     let bad = Refusal::BadLists(i);
     let lines = input.next(lists, bad)?;

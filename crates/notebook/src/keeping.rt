@@ -2,11 +2,10 @@
 // new one whole.
 use anyhow::Context;
 use book_file::Book;
-use std::fs;
 use std::fs::File;
-use std::io;
 use std::io::{ErrorKind, Write};
 use std::path::{Path, PathBuf};
+use std::{fs, io};
 
 // The file, the new one, and their folder.
 #[derive(Drop)]
@@ -33,8 +32,10 @@ impl Place {
     // Puts the book in the place of the one that stood there.
     pub fn keep(&self, rt: &HostRuntime, book: &Book) -> anyhow::Result<()> {
         let bytes = book.bytes(rt.alloc())?;
-        self.replace(rt, &bytes)
-            .context(format_args!("the book {} can't be written", self.file.display()))
+        self.replace(rt, &bytes).context(format_args!(
+            "the book {} can't be written",
+            self.file.display()
+        ))
     }
 
     // The new file may be read and written by whom the old one may.

@@ -1,7 +1,6 @@
-use Rattle.file_bytes.proofs.Reading.{some_both}
+use Rattle.file_bytes.proofs.Reading.{list_read}
 use Rattle.file_bytes.proofs.read_list.Goals as goal
 
-pub returns : goal.returns
-returns c =
-    some_both _ _ _ _ _ _ (1, c.in_ok-lines.ensures.read.1)
-    (some_both _ _ _ _ _ _ (1, c.in_ok-columns.ensures.read.1) (_, c.in_ok-numbers.ensures.read))
+pub returns-clause-read : goal.returns-clause-read
+returns-clause-read c =
+    list_read _ _ _ _ _ _ _ _ c.in_ok-lines.lines c.in_ok-columns.columns c.in_ok-lines.ensures.read c.in_ok-columns.ensures.read c.in_ok-numbers.ensures.read

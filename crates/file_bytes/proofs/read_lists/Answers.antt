@@ -1,14 +1,13 @@
-use Rattle.std.proofs.Common.{◌≡◌, ℕ, List, [], vec_items}
-use Rattle.file_bytes.specs.Numbers.{ReadSome}
-use Rattle.file_bytes.proofs.Reading.{some_both}
+use Rattle.std.proofs.Common.{rules}
+use Rattle.file_bytes.proofs.Reading.{each_of, lists_read}
 use Rattle.file_bytes.proofs.read_lists.Goals as goal
 
--- from an empty vector on
-started : (bs xs cs ys : List ℕ) → xs ≡ [] → ReadSome bs xs cs ys → ReadSome bs [] cs ys
-started bs xs cs ys e r = rw e at r
+pub returns-in_err-read_each-clause-refused : goal.returns-in_err-read_each-clause-refused
+returns-in_err-read_each-clause-refused c =
+    let h = each_of _ _ _ _ _ _ c.in_ok-count.count c.in_ok-next.field-0 c.in_ok-count.ensures.read c.in_ok-next.ensures.read c.args.most c.min.result c.in_err-read_each.field-0.0 c.min.ensures
+    c.in_err-read_each.ensures.refused in
+    search rules
 
-pub returns : goal.returns
-returns c =
-    started _ (vec_items c.new-lists.result) _ _ c.new-lists.ensures.items
-    (some_both _ _ _ _ _ _ (1, c.in_ok-count.ensures.read.1)
-    (some_both _ _ _ _ _ _ (1, c.in_ok-next.ensures.read.1) c.in_ok-read_each.ensures))
+pub returns-clause-read : goal.returns-clause-read
+returns-clause-read c =
+    lists_read _ _ _ _ _ _ c.in_ok-count.count c.in_ok-next.field-0 c.in_ok-count.ensures.read c.in_ok-next.ensures.read _ _ c.new-lists.ensures.items c.in_ok-read_each.ensures.read
