@@ -2,6 +2,7 @@
 #![tactic(auto)]
 
 use answer::{ask, with_room};
+use books::tell_book;
 use children::tell_children;
 use condition::{Cell, Node, Refusal, append, cell_at};
 use decide::sure_rows;
@@ -10,6 +11,7 @@ use std::alloc::{AllocError, Global};
 use std::io;
 use tidied::tell_tidied;
 
+mod books;
 mod children;
 mod tidied;
 
@@ -46,7 +48,9 @@ fn main(rt: HostRuntime) -> anyhow::Result<()> {
     println!(rt)?;
     tell_refusals(&rt)?;
     println!(rt)?;
-    tell_tidied(&rt)
+    tell_tidied(&rt)?;
+    println!(rt)?;
+    tell_book(&rt)
 }
 
 // The lists and the store of the example, with room for a question of that cost.
