@@ -14,7 +14,7 @@ use Rattle.evaluate.specs.Filling.{Filling, holds}
 use Rattle.evaluate.specs.Values.{value_of}
 use Rattle.evaluate.proofs.Worked.{by_node}
 use Rattle.decide.specs.Building.{Interned}
-use Rattle.decide.specs.Reaching.{Covers}
+use Rattle.decide.specs.Reaching.{EachPlace, Covers}
 use Rattle.decide.proofs.Coverage.{covers_none, covers_both}
 use Rattle.decide.specs.Folding.{Begun, Neat, Tidy, Covered, Draws, truth, Says, StandsFor, Built}
 
@@ -42,6 +42,15 @@ covers_node ns gs xs (Not a) h m c d = c a h.1
 covers_node ns gs xs (Both a b) h m c d = covers_both ns gs (cells_of (cond_at xs a)) (cells_of (cond_at xs b)) (c a (omega (arith, h.1, h.2))) (c b h.2)
 covers_node ns gs xs (Either a b) h m c d = covers_both ns gs (cells_of (cond_at xs a)) (cells_of (cond_at xs b)) (c a (omega (arith, h.1, h.2))) (c b h.2)
 
+covers_of : (ns gs : List ℕ) (n : Node) (go : ℕ → Cond) → Named n → Draws n ns gs → EachPlace n (λ j. Covers ns gs (cells_of (go j))) → Covers ns gs (cells_of (node_of n go))
+unfolding cells_of
+covers_of ns gs Always go m d e = covers_none ns gs
+covers_of ns gs Never go m d e = covers_none ns gs
+covers_of ns gs (Equal a b) go m d e = rw (m.0, m.1) d
+covers_of ns gs (Not a) go m d e = e
+covers_of ns gs (Both a b) go m d e = covers_both ns gs (cells_of (go a)) (cells_of (go b)) e.0 e.1
+covers_of ns gs (Either a b) go m d e = covers_both ns gs (cells_of (go a)) (cells_of (go b)) e.0 e.1
+
 -- a place that stands already
 pub built_kept : (xs : List ℕ) (n : Node) (r : ℕ) → Begun xs → Says xs n r → Built xs xs n r
 built_kept xs n r b s = record {
@@ -49,6 +58,7 @@ built_kept xs n r b s = record {
   few = omega arith;
   stands = s.stands;
   value = s.value;
+  inside = s.inside;
   new = λ j p q. absurd (omega arith);
   covered = λ ns gs c d. c;
 }
@@ -57,7 +67,11 @@ node_says : (xs : List ℕ) (n : Node) → Named n → (c : Cond) → c ≡ node
 node_says xs n m c e v = ap (holds v) e ∙ sym (by_node v n m (truth xs v) (cond_at xs) (λ j. refl))
 
 pub built_found : (xs : List ℕ) (n : Node) (r : ℕ) → Begun xs → Named n → StandsAs xs r n → Built xs xs n r
-built_found xs n r b m s = built_kept xs n r b (record { stands = s.stands; value = node_says xs n m (cond_at xs r) (stands_means xs r n s) })
+built_found xs n r b m s = built_kept xs n r b (record {
+  stands = s.stands;
+  value = node_says xs n m (cond_at xs r) (stands_means xs r n s);
+  inside = λ ns gs d. rw (stands_means xs r n s) (covers_of ns gs n (cond_at xs) m d.0 d.1);
+})
 
 pub tidy_added : (xs ys : List ℕ) (n : Node) (r : ℕ) → Tidy xs → Neat (count xs) n → Named n → Added xs ys n r → Tidy ys
 tidy_added xs ys n r t h m a i p q = elim (cases_lt i (count xs)) [
@@ -71,6 +85,7 @@ built_added xs ys n r h m a = record {
   few = omega (arith, a.place, a.more);
   stands = omega (arith, a.more);
   value = node_says xs n m (cond_at ys r) a.new;
+  inside = λ ns gs d. rw a.new (covers_of ns gs n (cond_at xs) m d.0 d.1);
   new = λ j p q. omega (arith, a.place, a.more);
   covered = λ ns gs c d j q. elim (cases_lt j (count xs)) [
     | inl l ↦ rw (grown_cond xs ys a.grown j l) (c j l)
@@ -108,6 +123,7 @@ built_for xs ys n m r s b = record {
   few = b.few;
   stands = b.stands;
   value = λ v. b.value v ∙ s.value v;
+  inside = λ ns gs d. b.inside ns gs (s.places ns gs d);
   new = b.new;
   covered = λ ns gs c d. b.covered ns gs c (s.draws ns gs d);
 }

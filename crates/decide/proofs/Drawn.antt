@@ -6,22 +6,21 @@ use Rattle.condition.specs.Store.{has_name, count, cond_at}
 use Rattle.condition.specs.Shapes.{cell_of, Named}
 use Rattle.condition.specs.Nodes.{cell_from, compared, node_from, decoded}
 use Rattle.condition.specs.declared.Cell.{Cell}
-use Rattle.condition.specs.declared.Node.{Node}
-use Rattle.condition.specs.declared.Node.TheVariants.{Always, Never, Equal, Not, Both, Either}
+use Rattle.condition.specs.declared.Node.TheVariants.{Never, Equal}
 use Rattle.condition.proofs.Lists.{has_left, has_right}
 use Rattle.condition.proofs.Decoding.{at_decoded}
 use Rattle.list.specs.Layout.{line_size, lines_named}
 use Rattle.list.specs.Lists.{Line, Row}
 use Rattle.list.proofs.Reading.{line_named}
 use Rattle.decide.specs.Deciding.{cells_in_lines, conds_in_lines}
-use Rattle.decide.specs.Folding.{Draws, DrawsAll}
+use Rattle.decide.specs.Folding.{DrawsAll}
 use Rattle.decide.specs.Matching.{node_at}
-use Rattle.decide.specs.Reaching.{own_cells, Covers, AllCovered}
+use Rattle.decide.specs.Reaching.{Covers, AllCovered}
 use Rattle.decide.specs.Showing.{row_cells}
 use Rattle.decide.specs.Standing.{named_cells}
 use Rattle.decide.specs.Surveying.{numbers_met, gaps_met}
 use Rattle.decide.proofs.Coverage.{covers_both, covers_right, covers_self, covers_more}
-use Rattle.decide.proofs.Noted.{own_equal}
+use Rattle.decide.proofs.Folded.{draws_node}
 use Rattle.decide.proofs.Reached.{own_covered}
 use Rattle.decide.proofs.Surveyed.{row_covered}
 
@@ -40,14 +39,6 @@ from_named (suc (suc zero)) a b c d = compared_named (cell_from a b) (cell_from 
 from_named (suc (suc (suc zero))) a b c d = tt
 from_named (suc (suc (suc (suc zero)))) a b c d = tt
 from_named (suc (suc (suc (suc (suc k))))) a b c d = tt
-
-draws_node : (ns gs : List ℕ) (n : Node) → Named n → Covers ns gs (own_cells n) → Draws n ns gs
-draws_node ns gs Always h c = tt
-draws_node ns gs Never h c = tt
-draws_node ns gs (Equal a b) h c = rw (own_equal a b h) at c
-draws_node ns gs (Not a) h c = tt
-draws_node ns gs (Both a b) h c = tt
-draws_node ns gs (Either a b) h c = tt
 
 -- where marked nodes are covered, so are the cells that each compares
 pub draws_all : (ns gs nodes : List ℕ) (n : ℕ) (ms : List Bool) → n ≤ count nodes → AllCovered ns gs nodes n ms → DrawsAll nodes n ms ns gs

@@ -1,7 +1,7 @@
 -- Why a simpler node, or a place that stands, holds where a node does.
 use Rattle.std.proofs.Common.{◌≡◌, ℕ, ◌<◌, ◌≤◌, Bool, true, false, not, ◌&&◌, ◌||◌, eqb, List, [], ◌∷◌, sym, refl, ap, ◌∙◌, subst, arith}
 use Rattle.std.proofs.lemmas.Bool.{eq-eqb, ne_eqb}
-use Rattle.condition.specs.Cond.{numbers_in, gaps_in, has, Within}
+use Rattle.condition.specs.Cond.{cells_of, numbers_in, gaps_in, has, Within}
 use Rattle.condition.specs.Store.{count, cond_at}
 use Rattle.condition.specs.Shapes.{cell_of, Named}
 use Rattle.condition.specs.Nodes.{decoded}
@@ -19,6 +19,7 @@ use Rattle.decide.specs.Folding.{Begun, Neat, Tidy, truth, joined, vanishing, se
 use Rattle.decide.specs.declared.simplifying.Join.{Join}
 use Rattle.decide.specs.declared.simplifying.Join.TheVariants.{All, Any}
 use Rattle.decide.proofs.Added.{neat_behind}
+use Rattle.decide.proofs.Coverage.{covers_none}
 
 and_not : (x : Bool) → false ≡ (x && not x)
 and_not true = refl
@@ -36,11 +37,19 @@ module _ (xs : List ℕ) (b : Begun xs) where
   pub truth_never : (v : Filling) → truth xs v 1 ≡ false
   truth_never v = ap (holds v) b.second ∙ holds_never v
 
+  first_inside : (ns gs : List ℕ) → Covers ns gs (cells_of (cond_at xs 0))
+  unfolding cells_of
+  first_inside ns gs = rw b.first (covers_none ns gs)
+
+  second_inside : (ns gs : List ℕ) → Covers ns gs (cells_of (cond_at xs 1))
+  unfolding cells_of
+  second_inside ns gs = rw b.second (covers_none ns gs)
+
   pub says_always : (n : Node) → ((v : Filling) → value_of v n (truth xs v) ≡ true) → Says xs n 0
-  says_always n h = record { stands = omega (arith, b.two); value = λ v. truth_always v ∙ sym (h v) }
+  says_always n h = record { stands = omega (arith, b.two); value = λ v. truth_always v ∙ sym (h v); inside = λ ns gs d. first_inside ns gs }
 
   pub says_never : (n : Node) → ((v : Filling) → value_of v n (truth xs v) ≡ false) → Says xs n 1
-  says_never n h = record { stands = omega (arith, b.two); value = λ v. truth_never v ∙ sym (h v) }
+  says_never n h = record { stands = omega (arith, b.two); value = λ v. truth_never v ∙ sym (h v); inside = λ ns gs d. second_inside ns gs }
 
   pub not_always : (a : ℕ) → a ≡ 0 → Says xs (Not a) 1
   not_always a e = says_never (Not a) (λ v. ap (λ j. not (truth xs v j)) e ∙ ap not (truth_always v))
@@ -50,8 +59,8 @@ module _ (xs : List ℕ) (b : Begun xs) where
 
   -- one constant changes nothing, the other settles what it is joined to, and so does a condition with its negation
   pub join_vanishing : (j : Join) (a c : ℕ) → a ≡ vanishing j → c < count xs → Says xs (joined j a c) c
-  join_vanishing All a c e l = record { stands = l; value = λ v. sym (ap (λ k. truth xs v k && truth xs v c) e ∙ ap (λ t. t && truth xs v c) (truth_always v)) }
-  join_vanishing Any a c e l = record { stands = l; value = λ v. sym (ap (λ k. truth xs v k || truth xs v c) e ∙ ap (λ t. t || truth xs v c) (truth_never v)) }
+  join_vanishing All a c e l = record { stands = l; value = λ v. sym (ap (λ k. truth xs v k && truth xs v c) e ∙ ap (λ t. t && truth xs v c) (truth_always v)); inside = λ ns gs d. d.1.1 }
+  join_vanishing Any a c e l = record { stands = l; value = λ v. sym (ap (λ k. truth xs v k || truth xs v c) e ∙ ap (λ t. t || truth xs v c) (truth_never v)); inside = λ ns gs d. d.1.1 }
 
   pub join_settling : (j : Join) (a c : ℕ) → a ≡ settling j → Says xs (joined j a c) (settling j)
   join_settling All a c e = says_never (Both a c) (λ v. ap (λ k. truth xs v k && truth xs v c) e ∙ ap (λ t. t && truth xs v c) (truth_never v))
@@ -97,6 +106,7 @@ equal_turned xs a c h m = record {
   named = (m.1, m.0);
   value = λ v. eqb_sym (fill_cell v (cell_of c)) (fill_cell v (cell_of a));
   draws = λ ns gs p. covers_turn ns gs a c p;
+  places = λ ns gs p. (covers_turn ns gs a c p.0, tt);
 }
 
 -- what a negation says
@@ -104,3 +114,21 @@ pub negation : (xs : List ℕ) → Tidy xs → (a c : ℕ) → 2 ≤ a → a < c
 negation xs t a c p q e v =
     let n : Neat a (Not c) = subst (Neat a) (sym e) (t a p q) in
     ap (holds v) (stands_means xs a (Not c) (record { stands = q; after = neat_behind a (Not c) n; same = sym e })) ∙ holds_not v (cond_at xs c)
+
+pub negation_cells : (xs : List ℕ) → Tidy xs → (a c : ℕ) → 2 ≤ a → a < count xs → Not c ≡ decoded xs a → cells_of (cond_at xs a) ≡ cells_of (cond_at xs c)
+unfolding cells_of
+negation_cells xs t a c p q e =
+    let n : Neat a (Not c) = subst (Neat a) (sym e) (t a p q) in
+    ap cells_of (stands_means xs a (Not c) (record { stands = q; after = neat_behind a (Not c) n; same = sym e }))
+
+-- what was negated already
+pub not_negated : (xs : List ℕ) (a c : ℕ) → c < count xs → ((v : Filling) → truth xs v a ≡ not (truth xs v c)) → cells_of (cond_at xs a) ≡ cells_of (cond_at xs c) → Says xs (Not a) c
+not_negated xs a c l h e = record {
+  stands = l;
+  value = λ v. sym (ap not (h v) ∙ twice (truth xs v c));
+  inside = λ ns gs d. subst (Covers ns gs) e d.1;
+}
+  where
+    twice : (b : Bool) → not (not b) ≡ b
+    twice true = refl
+    twice false = refl

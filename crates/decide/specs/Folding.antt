@@ -8,6 +8,7 @@
 --   Over cone n              all places that the node n names stand in the cone
 --   Covered cone ns gs       the cells of every condition of the cone have numbers of ns and gaps of gs alone
 --   Draws n ns gs            so do the cells that the node n itself compares
+--   DrawsOn xs n ns gs       so do those, and the cells of the conditions of the store xs that it names
 --   truth xs v j             whether the condition at place j of the store xs holds under v
 --   joined j a b             the node that joins the conditions at places a and b: that all of them hold, or that any does
 --   vanishing j, settling j  the place of the constant that changes nothing in such a node, and of the one that settles it
@@ -75,6 +76,9 @@ Draws (Not a) ns gs = Unit {0}
 Draws (Both a b) ns gs = Unit {0}
 Draws (Either a b) ns gs = Unit {0}
 
+abbrev pub DrawsOn : List ℕ → Node → List ℕ → List ℕ → Type 0
+DrawsOn xs n ns gs = Draws n ns gs × EachPlace n (λ j. Covers ns gs (cells_of (cond_at xs j)))
+
 abbrev pub truth : List ℕ → Filling → ℕ → Bool
 truth xs v j = holds v (cond_at xs j)
 
@@ -93,12 +97,14 @@ settling Any = 0
 pub record Says (xs : List ℕ) (n : Node) (r : ℕ) : Type 0 where
   pub stands : r < count xs
   pub value : (v : Filling) → holds v (cond_at xs r) ≡ value_of v n (truth xs v)
+  pub inside : (ns gs : List ℕ) → DrawsOn xs n ns gs → Covers ns gs (cells_of (cond_at xs r))
 
 pub record StandsFor (xs : List ℕ) (n m : Node) : Type 0 where
   pub neat : Neat (count xs) m
   pub named : Named m
   pub value : (v : Filling) → value_of v m (truth xs v) ≡ value_of v n (truth xs v)
   pub draws : (ns gs : List ℕ) → Draws n ns gs → Draws m ns gs
+  pub places : (ns gs : List ℕ) → DrawsOn xs n ns gs → DrawsOn xs m ns gs
 
 abbrev pub ComesTo : List ℕ → Node → Simple → Type 0
 ComesTo xs n (Place r) = Says xs n r
@@ -109,6 +115,8 @@ pub record Built (xs ys : List ℕ) (n : Node) (r : ℕ) : Type 0 where
   pub few : count ys ≤ count xs + 1
   pub stands : r < count ys
   pub value : (v : Filling) → holds v (cond_at ys r) ≡ value_of v n (truth xs v)
+  -- its condition has no other numbers and gaps than the node and what it names
+  pub inside : (ns gs : List ℕ) → DrawsOn xs n ns gs → Covers ns gs (cells_of (cond_at ys r))
   -- a node that is new stands at that place
   pub new : (j : ℕ) → count xs ≤ j → j < count ys → r ≡ j
   -- no other numbers and gaps than there were, and those of the node
@@ -137,6 +145,8 @@ pub record Folds (nodes : List ℕ) (n : ℕ) (marks : List Bool) (xs ys ps : Li
   pub few : count ys ≤ count xs + counted n (marked marks)
   pub stand : (i : ℕ) → i < n → slice_index_or marks i false ≡ true → slice_index ps i < count ys
   pub value : (i : ℕ) → i < n → slice_index_or marks i false ≡ true → (v : Filling) → holds v (cond_at ys (slice_index ps i)) ≡ holds v (cond_at nodes i)
+  -- and has no other numbers and gaps
+  pub inside : (i : ℕ) → i < n → slice_index_or marks i false ≡ true → (ns gs : List ℕ) → Covers ns gs (cells_of (cond_at nodes i)) → Covers ns gs (cells_of (cond_at ys (slice_index ps i)))
   -- each new node is the place of a marked one
   pub onto : (j : ℕ) → count xs ≤ j → j < count ys → PlaceOf n marks ps j
   -- no other numbers and gaps than there were, and those of the marked nodes

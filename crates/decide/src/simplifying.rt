@@ -1,6 +1,7 @@
 // What a node comes to in a cone, before it is looked for there: a place that stands, or a node with nothing to simplify.
 ghost use Rattle.std.specs.Prelude.{◌≡◌, ◌<◌, ◌≤◌, true, not, IfSome};
-ghost use Rattle.condition.specs.Store.{count};
+ghost use Rattle.condition.specs.Cond.{cells_of};
+ghost use Rattle.condition.specs.Store.{count, cond_at};
 ghost use Rattle.condition.specs.Shapes.{Named};
 ghost use Rattle.condition.specs.declared.Node.TheVariants.{Equal, Not};
 ghost use Rattle.evaluate.specs.Filling.{Filling};
@@ -160,6 +161,7 @@ impl Cone<'_, '_> {
         requires { (2 ≤ a) × (a < count self.now.nodes.now) }
         ensures before { IfSome result (λ b. b < a) }
         ensures value { IfSome result (λ b. (v : Filling) → truth self.now.nodes.now v a ≡ not (truth self.now.nodes.now v b)) }
+        ensures cells { IfSome result (λ b. cells_of (cond_at self.now.nodes.now a) ≡ cells_of (cond_at self.now.nodes.now b)) }
     {
         match nth_node(self.nodes, a as usize) {
             Node::Not(b) => Some(b),

@@ -1,17 +1,16 @@
 -- What was folded into a cone and copied from there is tidied.
-use Rattle.std.proofs.Common.{◌≡◌, ℕ, zero, suc, ◌+◌, ◌<◌, ◌≤◌, Bool, true, false, cond, List, replicate, length, get_or, set, None, sym, refl, ◌∙◌, subst, inl, inr, arith, get_or-set_other, get_or-set_same}
-use Rattle.std.proofs.lemmas.Bool.{lt-ltb, le-leb, cases_eq, eqb-true, ne_eqb}
+use Rattle.std.proofs.Common.{◌≡◌, ℕ, zero, suc, ◌+◌, ◌<◌, ◌≤◌, Bool, true, false, cond, List, replicate, length, get_or, set, None, sym, refl, ◌∙◌, inl, inr, arith, get_or-set_other, get_or-set_same}
+use Rattle.std.proofs.lemmas.Bool.{lt-ltb, le-leb, cases_eq, ne_eqb}
 use Rattle.std.proofs.lemmas.List.{length-replicate}
-use Rattle.condition.specs.Cond.{cells_of, numbers_in, gaps_in}
+use Rattle.condition.specs.Cond.{cells_of, numbers, gaps}
 use Rattle.condition.specs.Store.{count, cond_at, store_told, room, room_told}
 use Rattle.condition.proofs.Lists.{eqb_self}
 use Rattle.condition.proofs.Growing.{grown_cond}
 use Rattle.condition.proofs.Standing.{fits_from}
 use Rattle.decide.specs.Counting.{counted}
-use Rattle.decide.specs.Reaching.{marked, reached, Covers}
+use Rattle.decide.specs.Reaching.{marked, reached}
 use Rattle.decide.proofs.Counted.{counted_same}
 use Rattle.decide.proofs.Coverage.{covers_self}
-use Rattle.decide.proofs.Drawn.{draws_all}
 use Rattle.learn.specs.Copying.{ReachedFrom, Simplified, Turned, Copies, TidiedAll}
 use Rattle.learn.specs.Tidying.{reached_count, one, tidy_told, Tidied}
 use Rattle.learn.proofs.Moved.{cleared}
@@ -60,9 +59,10 @@ module _ (nodes : List ℕ) (roots ms : List Bool) (from : ReachedFrom nodes roo
       tidier = λ i l m. record {
         same = λ v. (turned i l m).same v ∙ s.value i l (from.kept i m) v;
         tidy = turned_tidy (cond_at cone (get_or ps i 0)) (cond_at nodes₁ (get_or cs (get_or ps i 0) 0)) (turned i l m) (cone_tidy cone s.begun s.tidy (get_or ps i 0) (stands i l m));
+        covered =
+            let ns = numbers (cond_at nodes i) in let gs = gaps (cond_at nodes i) in
+            (turned i l m).covered ns gs (s.inside i l (from.kept i m) ns gs (covers_self (cells_of (cond_at nodes i))));
       };
-      covered = λ ns gs h i l m.
-          (turned i l m).covered ns gs (s.covered ns gs (draws_all ns gs nodes (count nodes) ms (omega arith) (from.covered ns gs h)) (get_or ps i 0) (stands i l m));
     }
 
 -- tests that say the same are one
@@ -78,11 +78,9 @@ mark_one size node l j = elim (cases_eq j node) [
 
 pub tidied_one : (nodes : List ℕ) (node : ℕ) (nodes₁ ps cs : List ℕ) → node < count nodes → TidiedAll nodes (one node) nodes₁ ps cs → Tidied nodes node nodes₁ (get_or cs (get_or ps node 0) 0)
 tidied_one nodes node nodes₁ ps cs l t =
-    let here = eqb_self node in let d = cells_of (cond_at nodes node) in record {
+    let here = eqb_self node in record {
       stands = t.stand node l here;
       tidier = t.tidier node l here;
-      covered = t.covered (numbers_in d) (gaps_in d)
-          (λ i k m. subst (λ j. Covers (numbers_in d) (gaps_in d) (cells_of (cond_at nodes j))) (eqb-true node i m) (covers_self d)) node l here;
       grown = t.grown;
       few = t.few;
       store = t.store;

@@ -16,15 +16,14 @@ use Rattle.condition.specs.declared.Node.TheVariants.{Always, Never, Equal, Not,
 use Rattle.evaluate.specs.Filling.{Filling, holds}
 use Rattle.list.specs.Layout.{line_size}
 use Rattle.decide.specs.Counting.{counted}
-use Rattle.decide.specs.Folding.{Begun, Tidy, Covered, DrawsAll, PlaceOf}
-use Rattle.decide.specs.Reaching.{marked, reached, Closed, Covers, AllCovered}
+use Rattle.decide.specs.Folding.{Begun, Tidy, PlaceOf}
+use Rattle.decide.specs.Reaching.{marked, reached, Closed, Covers}
 use Rattle.learn.specs.Tidying.{Plain, Tidier, reached_count}
 
 pub record ReachedFrom (nodes : List ℕ) (roots ms : List Bool) : Type 0 where
   pub exact : (j : ℕ) → marked ms j ≡ reached nodes (count nodes) (marked roots) j
   pub closed : Closed nodes (count nodes) ms
   pub kept : (j : ℕ) → marked roots j ≡ true → marked ms j ≡ true
-  pub covered : (ns gs : List ℕ) → AllCovered ns gs nodes (count nodes) roots → AllCovered ns gs nodes (count nodes) ms
 
 pub record Simplified (nodes : List ℕ) (n : ℕ) (ms : List Bool) (cone ps : List ℕ) : Type 0 where
   pub begun : Begun cone
@@ -34,7 +33,7 @@ pub record Simplified (nodes : List ℕ) (n : ℕ) (ms : List Bool) (cone ps : L
   pub value : (i : ℕ) → i < n → marked ms i ≡ true → (v : Filling) → holds v (cond_at cone (slice_index ps i)) ≡ holds v (cond_at nodes i)
   -- behind always and never each node is the place of a marked one
   pub onto : (j : ℕ) → 2 ≤ j → j < count cone → PlaceOf n ms ps j
-  pub covered : (ns gs : List ℕ) → DrawsAll nodes n ms ns gs → Covered cone ns gs
+  pub inside : (i : ℕ) → i < n → marked ms i ≡ true → (ns gs : List ℕ) → Covers ns gs (cells_of (cond_at nodes i)) → Covers ns gs (cells_of (cond_at cone (slice_index ps i)))
 
 abbrev pub sorted : Node → Node
 sorted Always = Always
@@ -64,9 +63,6 @@ pub record TidiedAll (nodes : List ℕ) (p : ℕ → Bool) (nodes₁ ps cs : Lis
   pub place : (i : ℕ) → i < count nodes → p i ≡ true → slice_index ps i < length cs
   pub stand : (i : ℕ) → i < count nodes → p i ≡ true → slice_index cs (slice_index ps i) < count nodes₁
   pub tidier : (i : ℕ) → i < count nodes → p i ≡ true → Tidier (cond_at nodes i) (cond_at nodes₁ (slice_index cs (slice_index ps i)))
-  -- the new conditions name no numbers and gaps but those of the old ones
-  pub covered : (ns gs : List ℕ) → ((i : ℕ) → i < count nodes → p i ≡ true → Covers ns gs (cells_of (cond_at nodes i))) →
-      (i : ℕ) → i < count nodes → p i ≡ true → Covers ns gs (cells_of (cond_at nodes₁ (slice_index cs (slice_index ps i))))
 
 pub record Renamed (f : ℕ → ℕ) (n w : ℕ) (xs ys : List ℕ) : Type 0 where
   pub long : length ys ≡ length xs

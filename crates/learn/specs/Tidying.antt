@@ -3,7 +3,7 @@
 --   PlainPair a b           a gap before a number, or the smaller of two gaps before the other
 --   Plain c                 the condition c has no constant, and its comparisons are of plain pairs
 --   TidyCond c              it is always, or never, or plain
---   Tidier c d              d is a tidy condition that holds where c does
+--   Tidier c d              d is a tidy condition that holds where c does, and names no other numbers and gaps
 --   reached_count nodes p   how many nodes those that pass the test p reach, themselves counted
 --   one i j                 whether j is the node i
 --   MemoryTold t r          the result r tells what t tells; where that is nothing it may tell want of memory
@@ -51,6 +51,8 @@ TidyCond c = (c ≡ always) ⊎ ((c ≡ never) ⊎ Plain c)
 pub record Tidier (c d : Cond) : Type 0 where
   pub same : (v : Filling) → holds v d ≡ holds v c
   pub tidy : TidyCond d
+  -- it names no numbers and gaps but those of c
+  pub covered : Covers (numbers c) (gaps c) (cells_of d)
 
 abbrev pub reached_count : List ℕ → (ℕ → Bool) → ℕ
 reached_count nodes p = counted (count nodes) (reached nodes (count nodes) p)
@@ -72,8 +74,6 @@ pub record Tidied (nodes : List ℕ) (node : ℕ) (nodes₁ : List ℕ) (r : ℕ
   -- its condition is a tidier one
   pub stands : r < count nodes₁
   pub tidier : Tidier (cond_at nodes node) (cond_at nodes₁ r)
-  -- and names no numbers and gaps but those of the old one
-  pub covered : Covers (numbers (cond_at nodes node)) (gaps (cond_at nodes node)) (cells_of (cond_at nodes₁ r))
   -- nodes were added behind those that stood, no more than are reached
   pub grown : Grown nodes nodes₁
   pub few : count nodes₁ ≤ count nodes + reached_count nodes (one node)

@@ -13,6 +13,6 @@ returns c =
       stand = f.stand;
       value = f.value;
       onto = λ j p q. f.onto j (omega (arith, b.count)) q;
-      covered = λ ns gs d. f.covered ns gs (b.covered ns gs) d;
+      inside = f.inside;
     } in
     search rules

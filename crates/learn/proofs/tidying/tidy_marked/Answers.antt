@@ -6,7 +6,7 @@ use Rattle.learn.proofs.tidying.tidy_marked.Goals as goal
 pub returns-clause-refusal : goal.returns-clause-refusal
 returns-clause-refusal c =
     let e = c.close.ensures in
-    room_none c.args.nodes.now c.args.roots.now c.close.new.marks (record { exact = e.exact; closed = e.closed; kept = e.kept; covered = e.reached })
+    room_none c.args.nodes.now c.args.roots.now c.close.new.marks (record { exact = e.exact; closed = e.closed; kept = e.kept })
     (omega (arith, c.count_marks-reached.ensures, c.in_ok-room.ensures.value))
 
 pub returns-clause-tidied : goal.returns-clause-tidied
