@@ -1,14 +1,14 @@
 -- Lines under never left out.
-use Rattle.std.proofs.Common.{◌≡◌, ℕ, zero, suc, ◌+◌, ◌*◌, ◌<◌, ◌≤◌, Bool, true, false, cond as if, ◌⊎◌, List, [], ◌∷◌, ◌++◌, length, get_or, take, drop, set, sym, refl, ap, ◌∙◌, inl, inr, arith, suc-mul, zero-mul, length-set, get_or-set_same, get_or-set_other, add-one}
+use Rattle.std.proofs.Common.{◌≡◌, ℕ, zero, suc, ◌+◌, ◌*◌, ◌<◌, ◌≤◌, Bool, true, false, cond as if, ◌⊎◌, List, [], ◌∷◌, ◌++◌, length, get_or, drop, set, sym, refl, ap, ◌∙◌, inl, inr, arith, suc-mul, zero-mul, length-set, get_or-set_same, get_or-set_other, add-one}
 use Rattle.std.proofs.lemmas.List.{get_or-drop, drop-drop, append-nil}
-use Rattle.std.proofs.lemmas.Bool.{cases_lt, cases_eq}
+use Rattle.std.proofs.lemmas.Bool.{cases_lt}
 use Rattle.condition.specs.Cond.{Cond}
-use Rattle.condition.specs.Store.{count, cond_at}
+use Rattle.condition.specs.Store.{cond_at}
 use Rattle.condition.specs.Shapes.{node_of, Named}
 use Rattle.condition.specs.declared.Node.{Node}
 use Rattle.condition.specs.declared.Node.TheVariants.{Always, Never, Equal, Not, Both, Either}
 use Rattle.list.specs.Lists.{Line}
-use Rattle.list.specs.Layout.{line_size, cells_in, lines_in}
+use Rattle.list.specs.Layout.{line_size, lines_in}
 use Rattle.list.proofs.Reading.{line_in}
 use Rattle.answer.proofs.Steps.{row}
 use Rattle.learn.specs.Dropping.{is_never, without_never, Moved, Dropped}
@@ -43,8 +43,11 @@ unfolding lines_in
 lines_front ns zero w xs ys h = refl
 lines_front ns (suc m) w xs ys h =
     let e = suc-mul m (line_size w) in
-    rw (h 0 (omega arith), cells_same w (drop 1 xs) (drop 1 ys) (λ t l. rw (get_or-drop 1 ys t 0, get_or-drop 1 xs t 0) (h (1 + t) (omega arith))),
-    lines_front ns m w (drop (line_size w) xs) (drop (line_size w) ys) (λ k l. rw (get_or-drop (line_size w) ys k 0, get_or-drop (line_size w) xs k 0) (h (line_size w + k) (omega arith)))) refl
+    rw (
+      h 0 (omega arith),
+      cells_same w (drop 1 xs) (drop 1 ys) (λ t l. rw (get_or-drop 1 ys t 0, get_or-drop 1 xs t 0) (h (1 + t) (omega arith))),
+      lines_front ns m w (drop (line_size w) xs) (drop (line_size w) ys) (λ k l. rw (get_or-drop (line_size w) ys k 0, get_or-drop (line_size w) xs k 0) (h (line_size w + k) (omega arith))),
+    ) refl
 
 -- and one line more
 lines_last : (ns : List ℕ) (m w : ℕ) (xs : List ℕ) → lines_in ns (m + 1) w xs ≡ lines_in ns m w xs ++ line_in ns w (drop (m * line_size w) xs) ∷ []
@@ -107,5 +110,5 @@ module _ (ns : List ℕ) (w i : ℕ) (xs : List ℕ) (m : ℕ) (ys : List ℕ) (
           let old : lines_in ns m w zs ≡ without_never (lines_in ns i w xs) = lines_front ns m w ys zs (λ k l. v.before k l) ∙ d.lines in
           let new : line_in ns w (drop (m * line_size w) zs) ≡ line_in ns w (drop (i * line_size w) xs) =
           line_same ns w (drop (i * line_size w) xs) (drop (m * line_size w) zs) (λ t l.
-              get_or-drop (m * line_size w) zs t 0 ∙ (v.moved t l ∙ (d.past (i * line_size w + t) (omega arith) ∙ sym (get_or-drop (i * line_size w) xs t 0)))) in
+          get_or-drop (m * line_size w) zs t 0 ∙ (v.moved t l ∙ (d.past (i * line_size w + t) (omega arith) ∙ sym (get_or-drop (i * line_size w) xs t 0)))) in
           cc (old, new)

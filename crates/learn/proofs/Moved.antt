@@ -90,7 +90,16 @@ counted_places n m roots ps q h =
 -- from the places of what is to be tidied a cone reaches only places of what was folded
 module _ (nodes : List ℕ) (n : ℕ) (ms : List Bool) (cone ps : List ℕ) (simplified : Simplified nodes n ms cone ps) (roots first : List Bool)
     (within : (i : ℕ) → i < n → marked roots i ≡ true → marked ms i ≡ true) (placed : (j : ℕ) → marked first j ≡ true → PlaceOf n roots ps j) where
-  pub reached_places : (j : ℕ) → reached cone (count cone) (marked first) j ≡ true → PlaceOf n ms ps j
+  reached_places : (j : ℕ) → reached cone (count cone) (marked first) j ≡ true → PlaceOf n ms ps j
   reached_places = reached_least cone (count cone) (PlaceOf n ms ps) (marked first)
       (λ j h. let o : PlaceOf n roots ps j = placed j h in (o.0, o.1, within o.0 o.1 o.2, o.3))
       (λ i j l o h. let k = cone_high cone simplified.begun simplified.tidy i j l h in simplified.onto j k.0 (omega (arith, k.1)))
+
+  -- so no more of its nodes are copied than were folded
+  pub copied_few : (kept : List Bool) → ((j : ℕ) → marked kept j ≡ reached cone (count cone) (marked first) j) → counted (count cone) (marked kept) ≤ counted n (marked ms)
+  copied_few kept exact = counted_places n (count cone) ms ps (marked kept) (λ j h. reached_places j (sym (exact j) ∙ h))
+
+-- places that are marked where no mark was set
+pub placed_alone : (n : ℕ) (roots clear first : List Bool) (ps : List ℕ) → ((j : ℕ) → marked clear j ≡ false) →
+    ((j : ℕ) → marked first j ≡ true → (marked clear j ≡ true) ⊎ PlaceOf n roots ps j) → (j : ℕ) → marked first j ≡ true → PlaceOf n roots ps j
+placed_alone n roots clear first ps none only j h = ⊎_elim (λ t. absurd (both_ways (marked clear j) (none j) t)) (λ o. o) (only j h)

@@ -14,8 +14,8 @@ use Rattle.condition.specs.Cond.{Cond, both}
 --   Placed lists nodes new lists₁ nodes₁    the node that then is what is known stands behind all that stood
 --   write_cell k n a     the cell a with the number n for the gap k
 --   write_cond, write_lines, write_lists     the same in a condition, in lines, in lists
-use Rattle.std.specs.Prelude.{◌≡◌, ◌≢◌, ℕ, ◌+◌, ◌*◌, ◌<◌, ◌≤◌, true, false, cond as if, ◌⊎◌, List, [], ◌∷◌, length, Some, None, Result, MatchResult, ◌==◌, nat_lt, slice_index}
-use Rattle.condition.specs.Cond.{Cell, known, gap, Cond, both, each_cell}
+use Rattle.std.specs.Prelude.{◌≡◌, ◌≢◌, ℕ, ◌+◌, ◌*◌, ◌<◌, ◌≤◌, true, false, ◌⊎◌, List, [], ◌∷◌, length, Some, None, Result, MatchResult, nat_lt, slice_index}
+use Rattle.condition.specs.Cond.{Cond, both}
 use Rattle.condition.specs.Refusals.{Told, told, first, unless}
 use Rattle.condition.specs.Store.{count, cond_at, store_fits, room_told, Grown}
 use Rattle.condition.specs.Nodes.{five}

@@ -21,6 +21,9 @@ pub fn tell_tidied(rt: &HostRuntime) -> anyhow::Result<()> {
         tell_conditions(rt, &nodes, &answer)?;
     }
     tell_one_tidied(rt, &mut nodes, 1000)?;
+    let mut full = NODES;
+    tell_one_tidied(rt, &mut full, 6)?;
+    tell_one_tidied(rt, &mut [7], 6)?;
     for (lines, width) in [(7, 2), (u64::MAX, 0), (1, u64::MAX)] {
         match tidy_answer(heap, &mut nodes, &mut answer, lines, width) {
             Ok(left) => println!(rt; "{lines} lines {width} wide: {left} left")?,

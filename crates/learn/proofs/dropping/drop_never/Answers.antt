@@ -1,9 +1,8 @@
-use Rattle.std.proofs.Common.{◌≡◌, ◌+◌, ◌*◌, ◌<◌, ltb, get_or, sym, refl, ap, ◌∙◌, arith}
+use Rattle.std.proofs.Common.{◌≡◌, ◌*◌, ◌<◌, get_or, sym, ◌∙◌, arith}
 use Rattle.std.proofs.lemmas.Bool.{ltb-true}
 use Rattle.condition.specs.Store.{count}
 use Rattle.list.specs.Layout.{line_size}
 use Rattle.list.proofs.Reading.{lines_named_at}
-use Rattle.learn.specs.Dropping.{Moved}
 use Rattle.learn.proofs.Leaving.{dropped_none, next_left, next_kept}
 use Rattle.learn.proofs.dropping.drop_never.Goals as goal
 use Rattle.learn.proofs.dropping.drop_never.Goals.{then-not-is_never, else-not-is_never}

@@ -1,6 +1,5 @@
-use Rattle.std.proofs.Common.{sym, ap, ◌∙◌, refl}
+use Rattle.std.proofs.Common.{sym, refl}
 use Rattle.condition.proofs.Decoding.{at_decoded}
-use Rattle.learn.specs.Dropping.{is_never}
 use Rattle.learn.proofs.Leaving.{never_only}
 use Rattle.learn.proofs.dropping.is_never.Goals as goal
 
