@@ -1,4 +1,5 @@
-// Learning: what is known grows, and a learned number is written over its gap.
+// Learning: what is known grows, and a learned number is written over its gap. And tidying: conditions without constants below other nodes
+// and without comparisons that are settled.
 #![tactic(auto)]
 
 ghost use Rattle.learn.specs.Over.{WrittenOver, OverHolds, OverAnswers, OverLearned, OverNarrowed};
