@@ -1,15 +1,15 @@
 -- Of the bytes of a book only want of memory is told.
-use Rattle.std.proofs.Common.{◌≡◌, ℕ, ◌*◌, ◌<◌, ◌≤◌, ◌^◌, ◌⊎◌, inl, inr, List, [], ◌∷◌, ◌++◌, length, get_or, drop, None, Some, sym, ap, ◌∙◌, append_assoc, arith, length-drop, length-append}
+use Rattle.std.proofs.Common.{◌≡◌, ℕ, ◌*◌, ◌≤◌, ◌^◌, inl, inr, List, [], ◌∷◌, ◌++◌, length, get_or, drop, None, Some, sym, ap, ◌∙◌, append_assoc, arith, length-drop, length-append}
 use Rattle.std.proofs.lemmas.List.{drop_at}
 use Rattle.std.proofs.lemmas.Option.{none-some}
 use Rattle.condition.specs.Refusals.{told}
 use Rattle.condition.specs.Store.{count}
 use Rattle.condition.specs.declared.Refusal.{Refusal}
-use Rattle.condition.specs.declared.Refusal.TheVariants.{BadStore, NoMemory}
+use Rattle.condition.specs.declared.Refusal.TheVariants.{NoMemory}
 use Rattle.condition.proofs.Refusing.{first_none}
 use Rattle.list.specs.Layout.{lists_told, check_told}
 use Rattle.list.proofs.Fitting.{fitted}
-use Rattle.file_bytes.specs.Numbers.{number_at, ReadOn, Cut, AllBelow, four, bytes_of}
+use Rattle.file_bytes.specs.Numbers.{number_at, ReadOn, NodesTold, AllBelow, four, bytes_of}
 use Rattle.file_bytes.specs.Listing.{lists_long, AllThere, lists_in_file, ListsThere, ListsTold}
 use Rattle.file_bytes.proofs.Inverse.{four_read, bytes_add, bytes_long}
 use Rattle.file_bytes.proofs.There.{all_more, told_there}
@@ -76,12 +76,10 @@ module _ (ls ns bytes : List ℕ) (b : IsBook ls ns) (q : bytes ≡ book_bytes l
       nodes_long : length ds ≡ 4 * (5 * n)
       nodes_long = omega (arith, ap length nodes_is, bytes_long (drop 1 ns), length-drop 1 ns, b.whole, is, first_is)
 
-      pub refused_nodes : (e : Refusal) → (n ≤ 131072 → Cut (5 * n) ds (BadStore n) e) → e ≡ NoMemory
-      refused_nodes e h = go (h (omega (arith, is, first_is, b.few)))
-        where
-          go : (e ≡ NoMemory) ⊎ ((e ≡ BadStore n) × (length ds < 4 * (5 * n))) → e ≡ NoMemory
-          go (inl m) = m
-          go (inr m) = absurd (omega (arith, nodes_long, m.1))
+      pub refused_nodes : (e : Refusal) → NodesTold n ds e → e ≡ NoMemory
+      refused_nodes e (inl m) = m
+      refused_nodes e (inr (_, inl m)) = absurd (omega (arith, is, first_is, b.few, m))
+      refused_nodes e (inr (_, inr m)) = absurd (omega (arith, nodes_long, m))
 
       pub nothing_left : (es ys : List ℕ) → ReadOn (5 * n) ds (n ∷ []) es ys → length es ≡ 0
       nothing_left es ys s = omega (arith, ap length s.1, length-drop (4 * (5 * n)) ds, nodes_long)

@@ -44,12 +44,12 @@ room_for nodes new = unless (nat_lt (count new) (131072 - count nodes)) 6 (13107
 abbrev pub entry_told : (lists nodes new : List ℕ) → ℕ → Told
 entry_told lists nodes new node = first (room_for nodes new) (learn_told lists (with_new nodes new) node)
 
--- want of memory may be told in the place of any other
+-- want of memory may be told in the place of any other but 6
 abbrev pub EntryTold : {T : Type 0} → (lists nodes new : List ℕ) → ℕ → Result T Refusal → Type 0
 EntryTold lists nodes new node r =
     let t = entry_told lists nodes new node in
     MatchResult r (λ _. t ≡ None)
-    (λ e. (e ≡ NoMemory) ⊎ ((Some (told e) ≡ t) ⊎ ((t ≡ None) × (e ≡ WouldNotFit node) × NoneFits (learned lists (with_new nodes new) node))))
+    (λ e. ((e ≡ NoMemory) × (room_for nodes new ≡ None)) ⊎ ((Some (told e) ≡ t) ⊎ ((t ≡ None) × (e ≡ WouldNotFit node) × NoneFits (learned lists (with_new nodes new) node))))
 
 pub record EntryLearned (lists nodes new : List ℕ) (node : ℕ) (lists₁ nodes₁ : List ℕ) (i : ℕ) : Type 0 where
   -- what `learn` says of the store with the new nodes

@@ -5,6 +5,7 @@
 --   numbers_in n bs     the numbers in the first 4 n bytes
 --   ReadOn n bs xs cs ys     n numbers were read: ys is xs with them behind it, and cs are the bytes left
 --   Cut n bs missing e       the refusal e is told in the place of n numbers: missing, where the bytes bs hold fewer, or want of memory
+--   NodesTold n bs e         the refusal e is told in the place of n nodes: 2 and n, where the bytes hold fewer or n are too many, or want of memory
 --   AllBelow m xs       each of the numbers xs is below m
 --   four n              the four bytes of a number, low byte first
 --   bytes_of ns         the bytes of the numbers ns, one number after the other
@@ -12,7 +13,7 @@
 --   ReadWritten         the numbers in some bytes have these bytes
 use Rattle.std.specs.Prelude.{◌⊎◌, ◌≡◌, ℕ, zero, suc, ◌+◌, ◌*◌, ◌/◌, ◌%◌, ◌^◌, ◌<◌, ◌≤◌, List, [], ◌∷◌, ◌++◌, length, drop, Some, None, Option, slice_index}
 use Rattle.condition.specs.declared.Refusal.{Refusal}
-use Rattle.condition.specs.declared.Refusal.TheVariants.{NoMemory}
+use Rattle.condition.specs.declared.Refusal.TheVariants.{BadStore, NoMemory}
 
 abbrev pub number_at : List ℕ → ℕ
 number_at bs = slice_index bs 0 + 256 * slice_index bs 1 + 65536 * (slice_index bs 2 + 256 * slice_index bs 3)
@@ -30,6 +31,9 @@ ReadOn n bs xs cs ys = (ys ≡ xs ++ numbers_in n bs) × (cs ≡ drop (4 * n) bs
 
 abbrev pub Cut : ℕ → List ℕ → (missing e : Refusal) → Type 0
 Cut n bs missing e = (e ≡ NoMemory) ⊎ ((e ≡ missing) × (length bs < 4 * n))
+
+abbrev pub NodesTold : ℕ → List ℕ → Refusal → Type 0
+NodesTold n bs e = (e ≡ NoMemory) ⊎ ((e ≡ BadStore n) × ((131072 < n) ⊎ (length bs < 4 * (5 * n))))
 
 abbrev pub AllBelow : ℕ → List ℕ → Type 0
 AllBelow m xs = (k : ℕ) → slice_index xs k < m

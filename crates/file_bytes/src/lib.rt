@@ -2,8 +2,8 @@
 #![tactic(auto)]
 
 ghost use Rattle.std.specs.Prelude.{◌≡◌, ◌*◌, ◌≤◌, ◌⊎◌, [], ◌∷◌, length, IfErr, IfOk, OnOk, slice_index};
-ghost use Rattle.condition.specs.declared.Refusal.TheVariants.{BadLists, BadStore, NoMemory};
-ghost use Rattle.file_bytes.specs.Numbers.{number_at, Taken, ReadOn, Cut, AllBelow, WrittenRead, ReadWritten};
+ghost use Rattle.condition.specs.declared.Refusal.TheVariants.{BadLists, NoMemory};
+ghost use Rattle.file_bytes.specs.Numbers.{number_at, Taken, ReadOn, Cut, NodesTold, AllBelow, WrittenRead, ReadWritten};
 ghost use Rattle.file_bytes.specs.Listing.{list_long, lists_long, ListThere, AllThere, EachTold, lists_in_file, ListsThere, ListsTold};
 
 use condition::{MOST_NODES, Refusal};
@@ -132,7 +132,7 @@ fn read_list(input: &mut Input, i: u64, most: u64, lists: &mut Vec<u64>) -> Resu
 pub fn read_nodes(heap: Global, input: &mut Input, count: u64) -> Result<Vec<u64>, Refusal>
     ensures few { OnOk result (count ≤ 131072) }
     ensures read { IfOk result (λ v. ReadOn (5 * count) input.old.rest.now (count ∷ []) input.new.rest.now v.items) }
-    ensures refused { IfErr result (λ e. count ≤ 131072 → Cut (5 * count) input.old.rest.now (BadStore count) e) }
+    ensures refused { IfErr result (NodesTold count input.old.rest.now) }
 {
     if count > MOST_NODES {
         return Err(Refusal::BadStore(count));
