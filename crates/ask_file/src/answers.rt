@@ -1,8 +1,11 @@
 // The answer to a question of a file.
+use crate::gaps::named_gaps;
 use crate::reading::{Asked, Book};
 use answer::{ask, with_room};
 use condition::Refusal;
-use decide::{Standing, decide_row, sure_rows};
+use decide::{Sides, Standing, decide_row, row_fillings, sure_rows};
+use evaluate::Filling;
+use learn::tidy_answer;
 use list::line_size;
 use std::alloc::Global;
 
@@ -19,6 +22,15 @@ pub struct Answer<'a> {
     pub numbers: Vec<u64>,
     lines: u64,
     pub width: usize,
+    // Which gaps the file names.
+    pub gaps: [bool; 64],
+}
+
+// Lines with tidy conditions, without those under never, and the store that the conditions stand in.
+#[derive(Drop)]
+pub struct Lines {
+    pub nodes: Vec<u64>,
+    pub numbers: Vec<u64>,
 }
 
 impl<'a> Answer<'a> {
@@ -38,7 +50,20 @@ impl<'a> Answer<'a> {
             numbers,
             lines,
             width,
+            gaps: named_gaps(&book.lists, &book.nodes),
         })
+    }
+
+    // Its lines, tidied; no more nodes are added than stand.
+    pub fn tidied(&self, heap: Global) -> Result<Lines, Refusal> {
+        let count = self.nodes.first().copied().unwrap_or(0);
+        let mut nodes = with_room(heap, &self.nodes, count)?;
+        let mut numbers = self.numbers.clone()?;
+        let width = self.width as u64;
+        let left = tidy_answer(heap, &mut nodes, &mut numbers, self.lines, width)?;
+        let size = self.width.saturating_mul(2).saturating_add(1);
+        numbers.truncate(size.saturating_mul(left as usize));
+        Ok(Lines { nodes, numbers })
     }
 
     // Its sure rows in order, one after the other.
@@ -62,6 +87,23 @@ impl<'a> Answer<'a> {
     // How a row stands in it.
     pub fn decide_row(&self, heap: Global, row: &[u64]) -> Result<Standing, Refusal> {
         decide_row(
+            heap,
+            self.lists,
+            &self.nodes,
+            &self.numbers,
+            self.lines,
+            self.width as u64,
+            row,
+        )
+    }
+
+    // A filling that fits with which a row is there, and one with which it is not.
+    pub fn row_fillings(
+        &self,
+        heap: Global,
+        row: &[u64],
+    ) -> Result<Sides<Option<Filling>>, Refusal> {
+        row_fillings(
             heap,
             self.lists,
             &self.nodes,

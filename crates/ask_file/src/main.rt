@@ -4,11 +4,12 @@
 
 mod answers;
 mod arguments;
+mod gaps;
 mod reading;
 mod telling;
 
 use answers::Answer;
-use arguments::{HELP, Wish};
+use arguments::{HELP, Shown, Wish};
 use file_bytes::Input;
 use reading::{Asked, Book};
 use std::alloc::Global;
@@ -19,19 +20,18 @@ const MOST_COST: u64 = 512;
 
 fn main(rt: HostRuntime) -> anyhow::Result<()> {
     match Wish::read(&rt)? {
-        Wish::Rows => answer_file(&rt, false),
-        Wish::LinesAndRows => answer_file(&rt, true),
+        Wish::Answers(shown) => answer_file(&rt, shown),
         Wish::Help => Ok(rt.print(HELP)?),
     }
 }
 
-fn answer_file(rt: &HostRuntime, with_lines: bool) -> anyhow::Result<()> {
+fn answer_file(rt: &HostRuntime, shown: Shown) -> anyhow::Result<()> {
     let heap = rt.alloc();
     let mut bytes = Vec::new(heap);
     rt.stdin().read_to_end(&mut bytes)?;
     let mut input = Input::new(&bytes);
     match Book::read(heap, &mut input) {
-        Ok(book) => answer_all(rt, heap, &mut input, &book, with_lines),
+        Ok(book) => answer_all(rt, heap, &mut input, &book, shown),
         Err(refusal) => Ok(rt.println(refusal)?),
     }
 }
@@ -42,24 +42,24 @@ fn answer_all(
     heap: Global,
     input: &mut Input,
     book: &Book,
-    with_lines: bool,
+    shown: Shown,
 ) -> anyhow::Result<()> {
     while input.left() > 0 {
         match Asked::read(heap, input, &book.lists) {
-            Ok(asked) => answer(rt, heap, book, &asked, with_lines)?,
+            Ok(asked) => answer(rt, heap, book, &asked, shown)?,
             Err(refusal) => return Ok(rt.println(refusal)?),
         }
     }
     Ok(())
 }
 
-// The answer's lines, where they are wanted, its sure rows, and how the rows asked about stand; or that the question is too large.
+// What is told of the answer and of the rows asked about; or that the question is too large.
 fn answer(
     rt: &impl Print,
     heap: Global,
     book: &Book,
     asked: &Asked,
-    with_lines: bool,
+    shown: Shown,
 ) -> anyhow::Result<()> {
     if let Err(refusal) = asked.question.check_size() {
         return Ok(rt.println(refusal)?);
@@ -69,8 +69,7 @@ fn answer(
         return Ok(println!(rt; "refused 5 {first}")?);
     }
     match Answer::of(heap, book, asked) {
-        Ok(answer) if with_lines => telling::tell_all(rt, heap, &answer, &asked.rows)?,
-        Ok(answer) => telling::tell_rows(rt, heap, &answer, &asked.rows)?,
+        Ok(answer) => telling::tell(rt, heap, &answer, &asked.rows, shown)?,
         Err(refusal) => rt.println(refusal)?,
     }
     Ok(())
