@@ -13,7 +13,7 @@ use query::Question;
 use std::alloc::Global;
 use std::fmt;
 
-const BOOKS: u64 = 500;
+const BOOKS: u64 = 800;
 
 // A number that is higher than all that a case names.
 const OTHERS: u64 = 1000;

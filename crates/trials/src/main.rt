@@ -29,5 +29,5 @@ fn run(rt: &HostRuntime) -> anyhow::Result<()> {
     answers::decide_lines(rt, heap, &mut random)?;
     answers::decide_answers(rt, heap, &mut random)?;
     learning::learn_all(rt, heap, &mut random)?;
-    shares::tell_shares(rt, heap, &mut random)
+    shares::tell_shares(rt, heap, SEED + 2)
 }

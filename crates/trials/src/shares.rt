@@ -59,18 +59,20 @@ impl fmt::Display for Share {
     }
 }
 
-pub fn tell_shares(rt: &HostRuntime, heap: Global, random: &mut Random) -> anyhow::Result<()> {
+pub fn tell_shares(rt: &HostRuntime, heap: Global, seed: u64) -> anyhow::Result<()> {
+    let mut random = Random::of(seed);
+    println!(rt;
+        "joins of two lists of {LINES} lines, fathers and men of {MEN}, {PAIRS} of each kind, seed {seed}"
+    )?;
     for one_in in ONE_IN {
         let mut share = Share::default();
         for _ in 0..PAIRS {
-            let lists = draw_lists(heap, random, one_in)?;
+            let lists = draw_lists(heap, &mut random, one_in)?;
             if let Err(refusal) = add_join(heap, lists, &mut share) {
                 println!(rt; "a join is refused: {refusal}")?;
             }
         }
-        println!(rt;
-            "{PAIRS} joins of lists of {LINES} lines, one cell in {one_in} a gap: {share}"
-        )?;
+        println!(rt; "one cell in {one_in} a gap: {share}")?;
     }
     Ok(())
 }
