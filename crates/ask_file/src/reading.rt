@@ -3,7 +3,7 @@ ghost use Rattle.std.specs.Prelude.{◌<◌, length, OnOk};
 
 use condition::Refusal;
 use file_bytes::{Input, read_lists, read_nodes};
-use list::check;
+use list::{check, check_lists};
 use query::Question;
 use std::alloc::Global;
 
@@ -30,6 +30,8 @@ impl Book {
     pub fn read(heap: Global, input: &mut Input) -> Result<Book, Refusal> {
         let count = input.byte().ok_or(Refusal::BadLists(0))?;
         let lists = read_lists(heap, input, MOST_LINES)?;
+        // Lists that are none are told before nodes that are cut short.
+        check_lists(&lists)?;
         let nodes = read_nodes(heap, input, u64::from(count))?;
         check(&lists, &nodes)?;
         Ok(Book { lists, nodes })
