@@ -1,18 +1,20 @@
 -- Lines under never left out.
-use Rattle.std.proofs.Common.{◌≡◌, ℕ, zero, suc, ◌+◌, ◌*◌, ◌<◌, ◌≤◌, Bool, true, false, cond as if, ◌⊎◌, List, [], ◌∷◌, ◌++◌, length, get_or, drop, set, sym, refl, ap, ◌∙◌, inl, inr, arith, suc-mul, zero-mul, length-set, get_or-set_same, get_or-set_other, add-one}
+use Rattle.std.proofs.Common.{◌≡◌, ℕ, zero, suc, ◌+◌, ◌*◌, ◌<◌, ◌≤◌, Bool, true, false, cond as if, ◌&&◌, ◌⊎◌, List, [], ◌∷◌, ◌++◌, length, get_or, drop, set, sym, refl, ap, ◌∙◌, inl, inr, arith, suc-mul, zero-mul, length-set, get_or-set_same, get_or-set_other, add-one}
 use Rattle.std.proofs.lemmas.List.{get_or-drop, drop-drop, append-nil}
-use Rattle.std.proofs.lemmas.Bool.{cases_lt}
+use Rattle.std.proofs.Math.Bool.{and-true}
+use Rattle.std.proofs.lemmas.Bool.{cases_lt, and_parts, and_from}
 use Rattle.condition.specs.Cond.{Cond}
 use Rattle.condition.specs.Store.{cond_at}
 use Rattle.condition.specs.Shapes.{node_of, Named}
 use Rattle.condition.specs.declared.Node.{Node}
 use Rattle.condition.specs.declared.Node.TheVariants.{Always, Never, Equal, Not, Both, Either}
 use Rattle.list.specs.Lists.{Line}
-use Rattle.list.specs.Layout.{line_size, lines_in}
+use Rattle.list.specs.Layout.{line_size, lines_in, cells_fit, lines_fit}
 use Rattle.list.proofs.Reading.{line_in}
 use Rattle.answer.proofs.Steps.{row}
 use Rattle.learn.specs.Dropping.{is_never, without_never, Moved, Dropped}
-use Rattle.learn.proofs.Lined.{cells_same}
+use Rattle.learn.proofs.Meaning.{cells_same, fits_same}
+use Rattle.learn.proofs.Lists.{lines_same, lines_fit_same}
 
 pub never_only : (n : Node) (go : ℕ → Cond) → Named n → (n ≡ Never → ⊥) → is_never (node_of n go) ≡ false
 never_only Always go h d = refl
@@ -37,19 +39,7 @@ moved_more from to n xs ys low inside m = record {
   past = λ k l. get_or-set_other ys (to + n) k _ 0 (λ e. omega arith) ∙ m.past k (omega arith);
 }
 
--- the lines at the front, by the numbers there
-lines_front : (ns : List ℕ) (m w : ℕ) (xs ys : List ℕ) → ((k : ℕ) → k < m * line_size w → get_or ys k 0 ≡ get_or xs k 0) → lines_in ns m w ys ≡ lines_in ns m w xs
-unfolding lines_in
-lines_front ns zero w xs ys h = refl
-lines_front ns (suc m) w xs ys h =
-    let e = suc-mul m (line_size w) in
-    rw (
-      h 0 (omega arith),
-      cells_same w (drop 1 xs) (drop 1 ys) (λ t l. rw (get_or-drop 1 ys t 0, get_or-drop 1 xs t 0) (h (1 + t) (omega arith))),
-      lines_front ns m w (drop (line_size w) xs) (drop (line_size w) ys) (λ k l. rw (get_or-drop (line_size w) ys k 0, get_or-drop (line_size w) xs k 0) (h (line_size w + k) (omega arith))),
-    ) refl
-
--- and one line more
+-- one line more
 lines_last : (ns : List ℕ) (m w : ℕ) (xs : List ℕ) → lines_in ns (m + 1) w xs ≡ lines_in ns m w xs ++ line_in ns w (drop (m * line_size w) xs) ∷ []
 unfolding lines_in
 lines_last ns zero w xs = rw (zero-mul (line_size w)) refl
@@ -57,6 +47,19 @@ lines_last ns (suc m) w xs =
     let e : suc m * line_size w ≡ line_size w + m * line_size w = suc-mul m (line_size w) ∙ omega arith in
     let f : suc m + 1 ≡ suc (m + 1) = omega arith in
     rw f (ap (λ (ls : List Line). line_in ns w xs ∷ ls) (lines_last ns m w (drop (line_size w) xs) ∙ rw (e, ← drop-drop (m * line_size w) (line_size w) xs) refl))
+
+fit_last : (m w : ℕ) (xs : List ℕ) → lines_fit (m + 1) w xs ≡ (lines_fit m w xs && cells_fit w (drop 1 (drop (m * line_size w) xs)))
+unfolding lines_fit
+fit_last zero w xs = rw (zero-mul (line_size w)) (and-true (cells_fit w (drop 1 xs)))
+fit_last (suc m) w xs =
+    let e : suc m * line_size w ≡ line_size w + m * line_size w = suc-mul m (line_size w) ∙ omega arith in
+    let f : suc m + 1 ≡ suc (m + 1) = omega arith in
+    rw f (ap (λ (b : Bool). cells_fit w (drop 1 xs) && b) (fit_last m w (drop (line_size w) xs) ∙ rw (e, ← drop-drop (m * line_size w) (line_size w) xs) refl)
+    ∙ and_assoc (cells_fit w (drop 1 xs)) (lines_fit m w (drop (line_size w) xs)) (cells_fit w (drop 1 (drop (suc m * line_size w) xs))))
+  where
+    and_assoc : (a b c : Bool) → (a && (b && c)) ≡ ((a && b) && c)
+    and_assoc true b c = refl
+    and_assoc false b c = refl
 
 line_same : (ns : List ℕ) (w : ℕ) (xs ys : List ℕ) → ((t : ℕ) → t < line_size w → get_or ys t 0 ≡ get_or xs t 0) → line_in ns w ys ≡ line_in ns w xs
 line_same ns w xs ys h = rw (h 0 (omega arith), cells_same w (drop 1 xs) (drop 1 ys) (λ t l. rw (get_or-drop 1 ys t 0, get_or-drop 1 xs t 0) (h (1 + t) (omega arith)))) refl
@@ -74,7 +77,7 @@ without_last (k ∷ ls) l = go (is_never k.if_so) (without_last ls l)
 -- of one line more those not under never are moved to the front
 pub dropped_none : (ns : List ℕ) (w : ℕ) (xs : List ℕ) → Dropped ns 0 w xs 0 xs
 unfolding lines_in without_never
-dropped_none ns w xs = record { few = omega arith; long = refl; lines = refl; heads = λ j l. absurd (omega arith); past = λ k l. refl }
+dropped_none ns w xs = record { few = omega arith; long = refl; lines = refl; cells = λ h. h; heads = λ j l. absurd (omega arith); past = λ k l. refl }
 
 module _ (ns : List ℕ) (w i : ℕ) (xs : List ℕ) (m : ℕ) (ys : List ℕ) (d : Dropped ns i w xs m ys) where
   -- the condition of the next line
@@ -86,6 +89,7 @@ module _ (ns : List ℕ) (w i : ℕ) (xs : List ℕ) (m : ℕ) (ys : List ℕ) (
     few = omega (arith, d.few);
     long = d.long;
     lines = d.lines ∙ sym (ap without_never (lines_last ns i w xs) ∙ (without_last (lines_in ns i w xs) (line_in ns w (drop (i * line_size w) xs)) ∙ rw (sym next_if, h) (append-nil (without_never (lines_in ns i w xs)))));
+    cells = λ h. d.cells (and_parts _ _ (sym (fit_last i w xs) ∙ h)).0;
     heads = λ j l. let h = d.heads j l in (h.0, omega (arith, h.1), h.2);
     past = λ k l. d.past k (omega (arith, suc-mul i (line_size w), add-one i));
   }
@@ -95,10 +99,21 @@ module _ (ns : List ℕ) (w i : ℕ) (xs : List ℕ) (m : ℕ) (ys : List ℕ) (
     few = omega (arith, d.few);
     long = v.long ∙ d.long;
     lines = lines_last ns m w zs ∙ (front ∙ sym (ap without_never (lines_last ns i w xs) ∙ (without_last (lines_in ns i w xs) (line_in ns w (drop (i * line_size w) xs)) ∙ rw (sym next_if, h) refl)));
+    cells = fitting;
     heads = λ j l. head j l (cases_lt j m);
     past = λ k l. v.past k (omega (arith, row m (i + 1) (line_size w) (omega (arith, d.few)))) ∙ d.past k (omega (arith, suc-mul i (line_size w), add-one i));
   }
     where
+      fitting : lines_fit (i + 1) w xs ≡ true → lines_fit (m + 1) w zs ≡ true
+      fitting h =
+          let q : (lines_fit i w xs ≡ true) × (cells_fit w (drop 1 (drop (i * line_size w) xs)) ≡ true) = and_parts _ _ (sym (fit_last i w xs) ∙ h) in
+          let here : cells_fit w (drop 1 (drop (m * line_size w) zs)) ≡ cells_fit w (drop 1 (drop (i * line_size w) xs)) =
+          fits_same w (drop 1 (drop (i * line_size w) xs)) (drop 1 (drop (m * line_size w) zs)) (λ t l.
+          get_or-drop 1 (drop (m * line_size w) zs) t 0 ∙ (get_or-drop (m * line_size w) zs (1 + t) 0
+          ∙ (v.moved (1 + t) (omega arith) ∙ (d.past (i * line_size w + (1 + t)) (omega arith)
+          ∙ sym (get_or-drop 1 (drop (i * line_size w) xs) t 0 ∙ get_or-drop (i * line_size w) xs (1 + t) 0))))) in
+          fit_last m w zs ∙ and_from _ _ (lines_fit_same w m ys zs v.before ∙ d.cells q.0) (here ∙ q.1)
+
       head : (j : ℕ) → j < m + 1 → (j < m) ⊎ (m ≤ j) → (k : ℕ) × (k < i + 1) × (get_or zs (j * line_size w) 0 ≡ get_or xs (k * line_size w) 0)
       head j l (inl b) = let h = d.heads j b in (h.0, omega (arith, h.1), v.before (j * line_size w) (omega (arith, row j m (line_size w) b)) ∙ h.2)
       head j l (inr b) =
@@ -107,7 +122,7 @@ module _ (ns : List ℕ) (w i : ℕ) (xs : List ℕ) (m : ℕ) (ys : List ℕ) (
 
       front : lines_in ns m w zs ++ line_in ns w (drop (m * line_size w) zs) ∷ [] ≡ without_never (lines_in ns i w xs) ++ line_in ns w (drop (i * line_size w) xs) ∷ []
       front =
-          let old : lines_in ns m w zs ≡ without_never (lines_in ns i w xs) = lines_front ns m w ys zs (λ k l. v.before k l) ∙ d.lines in
+          let old : lines_in ns m w zs ≡ without_never (lines_in ns i w xs) = lines_same w ns m ys zs v.before ∙ d.lines in
           let new : line_in ns w (drop (m * line_size w) zs) ≡ line_in ns w (drop (i * line_size w) xs) =
           line_same ns w (drop (i * line_size w) xs) (drop (m * line_size w) zs) (λ t l.
           get_or-drop (m * line_size w) zs t 0 ∙ (v.moved t l ∙ (d.past (i * line_size w + t) (omega arith) ∙ sym (get_or-drop (i * line_size w) xs t 0)))) in

@@ -8,7 +8,7 @@ use Rattle.condition.specs.Store.{count, cond_at, store_told, room_told}
 use Rattle.condition.proofs.Lists.{eqb_self}
 use Rattle.condition.proofs.Growing.{grown_cond}
 use Rattle.evaluate.specs.Filling.{Filling, holds}
-use Rattle.list.specs.Layout.{line_size, cells_in, lines_in, lines_named}
+use Rattle.list.specs.Layout.{line_size, lines_in, lines_fit, lines_named}
 use Rattle.list.specs.Lists.{Line, filled, stands}
 use Rattle.list.proofs.Reading.{lines_named_at}
 use Rattle.answer.proofs.Steps.{row}
@@ -16,6 +16,7 @@ use Rattle.decide.specs.Reaching.{marked}
 use Rattle.decide.specs.Standing.{whole_lines}
 use Rattle.learn.specs.Dropping.{is_never, without_never, Dropped}
 use Rattle.learn.specs.Copying.{Renamed, TidiedAll}
+use Rattle.learn.proofs.Meaning.{cells_same, fits_same}
 use Rattle.learn.specs.Tidying.{Tidier, reached_count, lines_name, lines_told, Lined, tidy_answer_told, TidiedLines, TidiedAnswer}
 
 -- the nodes that lines name
@@ -85,12 +86,6 @@ renamed_tail f n w xs ys r =
       past = λ k l. rw (get_or-drop (line_size w) ys k 0, get_or-drop (line_size w) xs k 0) (r.past (line_size w + k) (omega (arith, m n)));
     }
 
-pub cells_same : (w : ℕ) (xs ys : List ℕ) → ((t : ℕ) → t < 2 * w → get_or ys t 0 ≡ get_or xs t 0) → cells_in w ys ≡ cells_in w xs
-unfolding cells_in
-cells_same zero xs ys h = refl
-cells_same (suc w) xs ys h =
-    rw (h 0 (omega arith), h 1 (omega arith), cells_same w (drop 2 xs) (drop 2 ys) (λ t l. rw (get_or-drop 2 ys t 0, get_or-drop 2 xs t 0) (h (2 + t) (omega arith)))) refl
-
 -- lines are tidied where their nodes are
 pub lines_tidied : (nodes nodes₁ : List ℕ) (f : ℕ → ℕ) (n w : ℕ) (xs ys : List ℕ) → Renamed f n w xs ys →
     ((i : ℕ) → i < n → Tidier (cond_at nodes (get_or xs (i * line_size w) 0)) (cond_at nodes₁ (f (get_or xs (i * line_size w) 0)))) → TidiedLines (lines_in nodes n w xs) (lines_in nodes₁ n w ys)
@@ -106,6 +101,17 @@ lines_tidied nodes nodes₁ f (suc n) w xs ys r h =
       lines_tidied nodes nodes₁ f n w (drop (line_size w) xs) (drop (line_size w) ys) (renamed_tail f n w xs ys r)
           (λ i l. rw (get_or-drop (line_size w) xs (i * line_size w) 0, m i) (h (suc i) (omega arith))),
     )
+
+-- and their cells are cells as before
+pub renamed_fit : (f : ℕ → ℕ) (n w : ℕ) (xs ys : List ℕ) → Renamed f n w xs ys → lines_fit n w ys ≡ lines_fit n w xs
+unfolding lines_fit
+renamed_fit f zero w xs ys r = refl
+renamed_fit f (suc n) w xs ys r =
+    let z = zero-mul (line_size w) in
+    rw (
+      fits_same w (drop 1 xs) (drop 1 ys) (λ t l. rw (get_or-drop 1 ys t 0, get_or-drop 1 xs t 0) (rw z at (r.body 0 t (omega arith) l))),
+      renamed_fit f n w (drop (line_size w) xs) (drop (line_size w) ys) (renamed_tail f n w xs ys r),
+    ) refl
 
 -- lines name what stands where each does
 pub lines_named_from : (c n w : ℕ) (ys : List ℕ) → ((i : ℕ) → i < n → get_or ys (i * line_size w) 0 < c) → lines_named c n w ys ≡ true
@@ -191,6 +197,7 @@ module _ (nodes answer : List ℕ) (n w : ℕ) (l : Lined nodes answer n w) wher
         left = d.few;
         named = lines_named_from (count nodes₁) m w answer₂ (λ j b.
             let k = d.heads j b in rw k.2 (ltb-true _ (count nodes₁) (lines_named_at (count nodes₁) n w k.0 answer₁ k.1 (renamed_named nodes₁ ps cs answer₁ t r))));
+        fit = λ h. d.cells (renamed_fit f n w answer answer₁ r ∙ h);
         long = d.long ∙ r.long;
         past = λ k l. d.past k l ∙ r.past k l;
         answers = λ what ts q a v h row.

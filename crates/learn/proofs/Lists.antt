@@ -26,14 +26,14 @@ module _ (w : ℕ) where
   own_rest : (m : ℕ) (xs ys : List ℕ) → Same (suc m * line_size w) xs ys → Same (m * line_size w) (drop (line_size w) xs) (drop (line_size w) ys)
   own_rest m xs ys h = let e = suc-mul m (line_size w) in same_from (line_size w) (m * line_size w) xs ys (λ p l. h p (omega arith))
 
-  lines_same : (nodes : List ℕ) (m : ℕ) (xs ys : List ℕ) → Same (m * line_size w) xs ys → lines_in nodes m w ys ≡ lines_in nodes m w xs
+  pub lines_same : (nodes : List ℕ) (m : ℕ) (xs ys : List ℕ) → Same (m * line_size w) xs ys → lines_in nodes m w ys ≡ lines_in nodes m w xs
   unfolding lines_in
   lines_same nodes zero xs ys h = refl
   lines_same nodes (suc m) xs ys h =
       let f = own_first m xs ys h in
       rw (f.0, cells_same w (drop 1 xs) (drop 1 ys) f.1, lines_same nodes m (drop (line_size w) xs) (drop (line_size w) ys) (own_rest m xs ys h)) refl
 
-  lines_fit_same : (m : ℕ) (xs ys : List ℕ) → Same (m * line_size w) xs ys → lines_fit m w ys ≡ lines_fit m w xs
+  pub lines_fit_same : (m : ℕ) (xs ys : List ℕ) → Same (m * line_size w) xs ys → lines_fit m w ys ≡ lines_fit m w xs
   unfolding lines_fit
   lines_fit_same zero xs ys h = refl
   lines_fit_same (suc m) xs ys h =

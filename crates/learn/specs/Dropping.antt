@@ -7,7 +7,7 @@
 use Rattle.std.specs.Prelude.{◌≡◌, ℕ, ◌+◌, ◌*◌, ◌<◌, ◌≤◌, Bool, true, false, cond as if, List, [], ◌∷◌, length, slice_index}
 use Rattle.condition.specs.Cond.{Cond, always, never, equal, not_so, both, either}
 use Rattle.list.specs.Lists.{Line}
-use Rattle.list.specs.Layout.{line_size, lines_in}
+use Rattle.list.specs.Layout.{line_size, lines_in, lines_fit}
 
 abbrev pub is_never : Cond → Bool
 is_never always = false
@@ -31,6 +31,8 @@ pub record Dropped (nodes : List ℕ) (n w : ℕ) (xs : List ℕ) (m : ℕ) (ys 
   pub few : m ≤ n
   pub long : length ys ≡ length xs
   pub lines : lines_in nodes m w ys ≡ without_never (lines_in nodes n w xs)
+  -- cells that were cells still are
+  pub cells : lines_fit n w xs ≡ true → lines_fit m w ys ≡ true
   -- each names a node that one of those named
   pub heads : (j : ℕ) → j < m → (i : ℕ) × (i < n) × (slice_index ys (j * line_size w) ≡ slice_index xs (i * line_size w))
   pub past : (k : ℕ) → n * line_size w ≤ k → slice_index ys k ≡ slice_index xs k

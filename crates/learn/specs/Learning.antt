@@ -9,11 +9,7 @@
 --   Unchanged lists nodes lists₁ nodes₁     the lists and all that stood mean what they meant
 --   Narrowed what more             where more is known than what, answers stay answers, sure rows sure, and impossible rows impossible
 --   Learned lists nodes new lists₁ nodes₁   the lists and the store once node new is learned
-use Rattle.std.specs.Prelude.{◌≡◌, ◌≢◌, ℕ, ◌+◌, ◌*◌, ◌<◌, ◌≤◌, true, false, ◌⊎◌, List, [], ◌∷◌, length, Some, None, Result, MatchResult, nat_lt, slice_index}
-use Rattle.condition.specs.Cond.{Cond, both}
 --   Placed lists nodes new lists₁ nodes₁    the node that then is what is known stands behind all that stood
---   write_cell k n a     the cell a with the number n for the gap k
---   write_cond, write_lines, write_lists     the same in a condition, in lines, in lists
 use Rattle.std.specs.Prelude.{◌≡◌, ◌≢◌, ℕ, ◌+◌, ◌*◌, ◌<◌, ◌≤◌, true, false, ◌⊎◌, List, [], ◌∷◌, length, Some, None, Result, MatchResult, nat_lt, slice_index}
 use Rattle.condition.specs.Cond.{Cond, both}
 use Rattle.condition.specs.Refusals.{Told, told, first, unless}

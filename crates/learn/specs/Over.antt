@@ -18,9 +18,8 @@
 --   Numbered lists nodes k n         what they have where nothing is told of them
 --   lists_size k xs, all_size lists  how many numbers lists take
 --   Overwritten lists nodes k n lists₁ nodes₁   the lists and the store once n is written over k
---   short_told n w xs                number 7: a slice too short for n lines, w cells wide
 --   AnswerOver k n m w xs ys         ys is the answer xs of m lines, w cells wide, with n over k in its cells
-use Rattle.std.specs.Prelude.{◌≡◌, ℕ, zero, suc, ◌+◌, ◌*◌, ◌<◌, ◌≤◌, true, cond as if, ◌⊎◌, ◌↔◌, List, [], ◌∷◌, length, drop, Some, None, Result, MatchResult, ◌==◌, nat_le, nat_lt, slice_index}
+use Rattle.std.specs.Prelude.{◌≡◌, ℕ, zero, suc, ◌+◌, ◌*◌, ◌<◌, ◌≤◌, true, cond as if, ◌⊎◌, ◌↔◌, List, [], ◌∷◌, length, drop, Some, None, Result, MatchResult, ◌==◌, nat_lt, slice_index}
 use Rattle.condition.specs.Cond.{Cell, known, gap, Cond, equal, both, each_cell}
 use Rattle.condition.specs.Refusals.{Told, told, first, unless}
 use Rattle.condition.specs.Store.{count, cond_at, store_fits, store_told, room_told}
@@ -148,9 +147,6 @@ pub record Overwritten (lists nodes : List ℕ) (k n : ℕ) (lists₁ nodes₁ :
   pub nodes_long : length nodes₁ ≡ length nodes
   pub lists_past : (j : ℕ) → all_size lists ≤ j → slice_index lists₁ j ≡ slice_index lists j
   pub nodes_past : (j : ℕ) → 1 + 5 * count nodes₁ ≤ j → slice_index nodes₁ j ≡ slice_index nodes j
-
-abbrev pub short_told : ℕ → ℕ → List ℕ → Told
-short_told n w xs = unless (nat_le (n * line_size w) (length xs)) 7 (length xs)
 
 pub record AnswerOver (k n m w : ℕ) (xs ys : List ℕ) : Type 0 where
   -- over any store, the cells of the lines have the number for the gap

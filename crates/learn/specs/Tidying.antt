@@ -10,6 +10,7 @@
 --   tidy_told nodes node    what is told of a node that is to be tidied: the first number of the list that applies
 --   Tidied nodes node nodes₁ r          the store once the node is tidied, and the place of the tidy one
 --   lines_name n w xs j     whether one of the n lines at the front of xs, w cells wide, names the node j
+--   short_told n w xs       number 7: a slice too short for n lines, w cells wide
 --   lines_told nodes answer n w         what is told of the lines of an answer over a store
 --   Lined nodes answer n w              what they have where that is nothing
 --   tidy_answer_told nodes answer n w   what is told of an answer that is to be tidied
@@ -24,7 +25,7 @@ use Rattle.condition.specs.declared.Refusal.{Refusal}
 use Rattle.condition.specs.declared.Refusal.TheVariants.{NoMemory}
 use Rattle.evaluate.specs.Filling.{Filling, holds}
 use Rattle.list.specs.Lists.{Line}
-use Rattle.list.specs.Layout.{line_size, lines_in, lines_named}
+use Rattle.list.specs.Layout.{line_size, lines_in, lines_fit, lines_named}
 use Rattle.query.specs.Ask.{Query}
 use Rattle.answer.specs.Promise.{Answers}
 use Rattle.decide.specs.Counting.{counted}
@@ -85,12 +86,15 @@ unfoldable pub lines_name : ℕ → ℕ → List ℕ → ℕ → Bool
 lines_name zero w xs j = false
 lines_name (suc n) w xs j = slice_index xs 0 == j || lines_name n w (drop (line_size w) xs) j
 
+abbrev pub short_told : ℕ → ℕ → List ℕ → Told
+short_told n w xs = unless (nat_le (n * line_size w) (length xs)) 7 (length xs)
+
 -- number 2; 3 with place 9 for the lines that lie whole in the slice; and 7
 abbrev pub lines_told : (nodes answer : List ℕ) → ℕ → ℕ → Told
 lines_told nodes answer n w =
     first (store_told nodes)
     (first (unless (lines_named (count nodes) (whole_lines n w answer) w answer) 3 9)
-    (unless (nat_le (n * line_size w) (length answer)) 7 (length answer)))
+    (short_told n w answer))
 
 -- what lines and a store have of which nothing is told
 pub record Lined (nodes answer : List ℕ) (n w : ℕ) : Type 0 where
@@ -117,7 +121,9 @@ pub record TidiedAnswer (nodes answer : List ℕ) (n w m : ℕ) (nodes₁ answer
   -- each line has its cells and a tidier condition, and then those under never are left out
   pub lines : (ls : List Line) × TidiedLines (lines_in nodes n w answer) ls × (lines_in nodes₁ m w answer₁ ≡ without_never ls)
   pub left : m ≤ n
+  -- they name nodes that stand, and cells that were cells still are
   pub named : lines_named (count nodes₁) m w answer₁ ≡ true
+  pub fit : lines_fit n w answer ≡ true → lines_fit m w answer₁ ≡ true
   -- what lay behind the lines is as it was
   pub long : length answer₁ ≡ length answer
   pub past : (k : ℕ) → n * line_size w ≤ k → slice_index answer₁ k ≡ slice_index answer k

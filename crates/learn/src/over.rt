@@ -1,7 +1,8 @@
 // Writing over: it is learned that a gap is a number, and the number is written in the place of the gap.
 ghost use Rattle.std.specs.Prelude.{◌≡◌, OnErr, OnOk};
 ghost use Rattle.condition.specs.Refusals.{outcome};
-ghost use Rattle.learn.specs.Over.{NumberTold, Numbered, Overwritten, short_told, AnswerOver};
+ghost use Rattle.learn.specs.Over.{NumberTold, Numbered, Overwritten, AnswerOver};
+ghost use Rattle.learn.specs.Tidying.{short_told};
 
 use crate::places::{over_lines, over_lists, over_nodes};
 use condition::{Cell, Node, Refusal, add, room};
