@@ -29,13 +29,39 @@ impl Book {
     // The lists and the nodes, behind the one byte that says how many nodes there are.
     pub fn read(heap: Global, input: &mut Input) -> Result<Book, Refusal> {
         let count = input.byte().ok_or(Refusal::BadLists(0))?;
-        let lists = read_lists(heap, input, MOST_LINES)?;
-        // Lists that are none are told before nodes that are cut short.
-        check_lists(&lists)?;
+        let lists = read_all_lists(heap, input)?;
         let nodes = read_nodes(heap, input, u64::from(count))?;
         check(&lists, &nodes)?;
         Ok(Book { lists, nodes })
     }
+}
+
+// The lists, or the first that is none; also of those before one that is cut short, and before nodes that are.
+fn read_all_lists(heap: Global, input: &mut Input) -> Result<Vec<u64>, Refusal> {
+    let mut before = *input;
+    match read_lists(heap, input, MOST_LINES) {
+        Ok(lists) => {
+            check_lists(&lists)?;
+            Ok(lists)
+        }
+        Err(Refusal::BadLists(cut)) if cut < 8 => {
+            check_before(heap, &mut before, cut)?;
+            Err(Refusal::BadLists(cut))
+        }
+        Err(refusal) => Err(refusal),
+    }
+}
+
+// Whether the first lists of a file, as many as are whole, are lists.
+fn check_before(heap: Global, input: &mut Input, whole: u64) -> Result<(), Refusal> {
+    let mut numbers = Vec::new(heap);
+    let left = input.left() as u64 / 4;
+    input.numbers(left, &mut numbers, Refusal::BadLists(0))?;
+    if let Some(count) = numbers.first_mut() {
+        *count = whole;
+    }
+    check_lists(&numbers)?;
+    Ok(())
 }
 
 impl Asked {
