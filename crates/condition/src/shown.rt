@@ -67,14 +67,14 @@ fn show<W: fmt::Write>(
             write!(f, "not ")?;
             return show(condition.at(a), Around::Not, left, f);
         }
-        Node::Both(a, b) => (a, "and", b, Around::And, around == Around::Not),
-        Node::Either(a, b) => (a, "or", b, Around::Nothing, around != Around::Nothing),
+        Node::Both(a, b) => (a, " and ", b, Around::And, around == Around::Not),
+        Node::Either(a, b) => (a, " or ", b, Around::Nothing, around != Around::Nothing),
     };
     if bracketed {
         write!(f, "(")?;
     }
     show(condition.at(a), inside, left, f)?;
-    write!(f, " {word} ")?;
+    f.write_str(word)?;
     show(condition.at(b), inside, left, f)?;
     if bracketed {
         write!(f, ")")?;
