@@ -93,16 +93,20 @@ built_added xs ys n r h m a = record {
   ];
 }
 
+-- a cone that grows is begun still
+pub grown_begun : (xs ys : List ℕ) → Grown xs ys → Begun xs → Begun ys
+grown_begun xs ys g b = record {
+  fits = g.fits;
+  two = omega (arith, g.more, b.two);
+  first = grown_cond xs ys g 0 (omega (arith, b.two)) ∙ b.first;
+  second = grown_cond xs ys g 1 (omega (arith, b.two)) ∙ b.second;
+}
+
 -- a node that was found or added
 module _ (xs ys : List ℕ) (n : Node) (r : ℕ) where
   pub begun_interned : Begun xs → Interned xs ys n r → Begun ys
   begun_interned b (inl f) = subst Begun (sym f.0) b
-  begun_interned b (inr a) = record {
-    fits = a.grown.fits;
-    two = omega (arith, b.two, a.grown.more);
-    first = grown_cond xs ys a.grown 0 (omega (arith, b.two)) ∙ b.first;
-    second = grown_cond xs ys a.grown 1 (omega (arith, b.two)) ∙ b.second;
-  }
+  begun_interned b (inr a) = grown_begun xs ys a.grown b
 
   pub tidy_interned : Tidy xs → Neat (count xs) n → Named n → Interned xs ys n r → Tidy ys
   tidy_interned t h m (inl f) = subst Tidy (sym f.0) t

@@ -1,5 +1,5 @@
 -- Laws of `counted`.
-use Rattle.std.proofs.Common.{◌≡◌, ℕ, zero, suc, ◌+◌, ◌<◌, ◌≤◌, Bool, true, false, not, ◌&&◌, eqb, ◌⊎◌, List, [], ◌∷◌, length, get_or, take, count_by, sym, refl, ap, ◌∙◌, subst, inl, inr, ⊎_elim, arith}
+use Rattle.std.proofs.Common.{◌≡◌, ℕ, zero, suc, ◌+◌, ◌<◌, ◌≤◌, Bool, true, false, not, cond as if, ◌&&◌, eqb, ◌⊎◌, List, [], ◌∷◌, length, get_or, take, count_by, sym, refl, ap, ◌∙◌, subst, inl, inr, ⊎_elim, arith}
 use Rattle.std.specs.List.{AllByRecursion, IsDistinct}
 use Rattle.std.proofs.lemmas.List.Sums.{count_by_more_yes, count_by_more_no}
 use Rattle.std.proofs.lemmas.Map.Keys.{IsDistinct-head, IsDistinct-tail}
@@ -24,6 +24,16 @@ pub counted_same : (n : ℕ) (p q : ℕ → Bool) → ((k : ℕ) → k < n → p
 unfolding counted
 counted_same zero p q h = refl
 counted_same (suc n) p q h = cc (counted_same n p q (λ k l. h k (omega arith)), h n (omega arith))
+
+-- no more than all
+pub counted_few : (n : ℕ) (p : ℕ → Bool) → counted n p ≤ n
+unfolding counted
+counted_few zero p = omega arith
+counted_few (suc n) p = go (counted_few n p) (p n)
+  where
+    go : counted n p ≤ n → (b : Bool) → counted n p + if b 1 0 ≤ suc n
+    go h true = omega arith
+    go h false = omega arith
 
 -- no more below fewer
 pub counted_more : (m n : ℕ) (p : ℕ → Bool) → m ≤ n → counted m p ≤ counted n p

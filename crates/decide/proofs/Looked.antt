@@ -4,7 +4,7 @@ use Rattle.std.specs.Iterator.{Yields, YieldsFirstBy, YieldsLastBy}
 use Rattle.std.specs.Iterator.Adapters.{rev_source, rev_steps}
 use Rattle.std.specs.declared.iter.Rev.{Rev}
 use Rattle.std.proofs.lemmas.List.{drop-drop}
-use Rattle.condition.specs.Store.{count}
+use Rattle.condition.specs.Store.{count, cond_at}
 use Rattle.list.specs.Layout.{line_size, cells_fit, cells_in, lines_in}
 use Rattle.list.specs.Lists.{Row}
 use Rattle.list.specs.Lists as lists
@@ -14,8 +14,10 @@ use Rattle.list.specs.declared.lines.Lines.{Lines}
 use Rattle.list.proofs.Lined.{line_turn, back_turn}
 use Rattle.list.proofs.Reading.{line_in, line_named, lines_fit_at}
 use Rattle.decide.specs.Deciding.{agrees, deciding}
-use Rattle.decide.specs.Sought.{line_of}
+use Rattle.decide.specs.Matching.{cells_at, node_at, deciding_from}
+use Rattle.decide.specs.Sought.{lines_of, line_of}
 use Rattle.decide.specs.declared.sought.Sought.{Sought}
+use Rattle.decide.proofs.Agreeing.{lines_none, lines_back}
 
 -- a line is line i of the answer: as wide as the row, its cells are cells, and its node stands
 pub record Looked (q : Sought) (i : ℕ) (line : Line) : Type 0 where
@@ -48,6 +50,25 @@ looked_back q s t u ys r line all before step o =
     let k = back_turn q.lines (length q.row.now) q.answer.now s t u ys r all before step line o in
     let e : q.lines - 1 - length ys ≡ q.lines - length ys - 1 = omega arith in
     (k.0, looked q (q.lines - length ys - 1) line (omega (arith, k.0)) k.1.0 (rw e at k.1.1))
+
+-- the lines that decide a row, from the last to the first
+pub from_none : (q : Sought) → deciding_from q q.lines ≡ []
+unfolding deciding
+from_none q = rw (lines_none q.nodes.now q.lines (length q.row.now) q.answer.now) refl
+
+-- the line at a place
+abbrev pub line_here : Sought → ℕ → lists.Line
+line_here q i = record { cells = cells_at (length q.row.now) q.answer.now i; if_so = cond_at q.nodes.now (node_at (length q.row.now) q.answer.now i) }
+
+pub from_pass : (q : Sought) (i : ℕ) → 0 < i → i ≤ q.lines → agrees (cells_at (length q.row.now) q.answer.now (i - 1)) q.row.now ≡ false →
+    deciding_from q (i - 1) ≡ deciding_from q i
+unfolding deciding
+from_pass q i p l h = rw (lines_back q.nodes.now q.lines (length q.row.now) i q.answer.now (drop ((i - 1) * line_size (length q.row.now)) q.answer.now) p l refl, h) refl
+
+pub from_more : (q : Sought) (i : ℕ) → 0 < i → i ≤ q.lines → agrees (cells_at (length q.row.now) q.answer.now (i - 1)) q.row.now ≡ true →
+    deciding_from q (i - 1) ≡ line_here q (i - 1) ∷ deciding_from q i
+unfolding deciding
+from_more q i p l h = rw (lines_back q.nodes.now q.lines (length q.row.now) i q.answer.now (drop ((i - 1) * line_size (length q.row.now)) q.answer.now) p l refl, h) refl
 
 -- the lines that agree with a row are as many as decide it
 pub agreeing_many : (nodes : List ℕ) (n : ℕ) (xs : List ℕ) (row : Row) →

@@ -14,14 +14,15 @@ use Rattle.evaluate.proofs.Holding.{holds_equal, holds_both, holds_either}
 use Rattle.list.specs.Layout.{line_size, cells_in}
 use Rattle.list.specs.Lists.{Line}
 use Rattle.decide.specs.Deciding.{gives, shows, agrees, deciding, cells_in_lines}
-use Rattle.decide.specs.Matching.{cells_at, node_at}
+use Rattle.decide.specs.Matching.{cells_at, node_at, deciding_from}
 use Rattle.decide.specs.Reaching.{Covers}
 use Rattle.decide.specs.Folding.{Begun, Built}
 use Rattle.decide.specs.Showing.{Means, Placed, row_cells, nodes_for}
 use Rattle.decide.specs.Sought.{lines_of, deciding_of}
 use Rattle.decide.specs.declared.sought.Sought.{Sought}
 use Rattle.decide.proofs.Coverage.{covers_both, covers_left, covers_right}
-use Rattle.decide.proofs.Agreeing.{drop_back, cells_none, cells_back, lines_none, lines_back}
+use Rattle.decide.proofs.Agreeing.{drop_back, cells_none, cells_back}
+use Rattle.decide.proofs.Looked.{from_none, line_here, from_pass, from_more}
 
 -- always and never stand in every cone
 pub means_always : (xs : List ℕ) → Begun xs → Means xs xs 0 [] always 0
@@ -108,28 +109,6 @@ giving_more xs ys zs us line row a r e f d p l g i b o =
           (means_equal xs ys zs us (2 * (length row - a)) _ _ r g.means d (Number (get_or row (a - 1) 0)) e f b o _
           (λ ns gs j. covers_pair ns gs (cell_of d) (known (get_or row (a - 1) 0)) (drop a (cells_in (length row) (drop 1 line))) (map known (drop a row)) j));
     }
-
--- the lines that decide a q.row.now, from the last to the first
-abbrev pub deciding_from : Sought → ℕ → List Line
-deciding_from q i = deciding (drop i (lines_of q)) q.row.now
-
-pub from_none : (q : Sought) → deciding_from q q.lines ≡ []
-unfolding deciding
-from_none q = rw (lines_none q.nodes.now q.lines (length q.row.now) q.answer.now) refl
-
--- the line at a place
-abbrev line_here : Sought → ℕ → Line
-line_here q i = record { cells = cells_at (length q.row.now) q.answer.now i; if_so = cond_at q.nodes.now (node_at (length q.row.now) q.answer.now i) }
-
-pub from_pass : (q : Sought) (i : ℕ) → 0 < i → i ≤ q.lines → agrees (cells_at (length q.row.now) q.answer.now (i - 1)) q.row.now ≡ false →
-    deciding_from q (i - 1) ≡ deciding_from q i
-unfolding deciding
-from_pass q i p l h = rw (lines_back q.nodes.now q.lines (length q.row.now) i q.answer.now (drop ((i - 1) * line_size (length q.row.now)) q.answer.now) p l refl, h) refl
-
-pub from_more : (q : Sought) (i : ℕ) → 0 < i → i ≤ q.lines → agrees (cells_at (length q.row.now) q.answer.now (i - 1)) q.row.now ≡ true →
-    deciding_from q (i - 1) ≡ line_here q (i - 1) ∷ deciding_from q i
-unfolding deciding
-from_more q i p l h = rw (lines_back q.nodes.now q.lines (length q.row.now) i q.answer.now (drop ((i - 1) * line_size (length q.row.now)) q.answer.now) p l refl, h) refl
 
 pub record Showing (xs ys : List ℕ) (q : Sought) (places : List ℕ) (i r : ℕ) : Type 0 where
   pub grown : Grown xs ys

@@ -1,5 +1,5 @@
 -- Laws of `Noted`: one more cell is noted, and cells in another order.
-use Rattle.std.proofs.Common.{◌≡◌, ℕ, ◌^◌, ◌<◌, ◌≤◌, Bool, true, false, ◌||◌, eqb, ◌≢◌, ◌⊎◌, List, [], ◌∷◌, ◌++◌, length, get_or, set, replicate, sym, refl, ap, ◌∙◌, inl, inr, ⊎_elim, arith, length-set}
+use Rattle.std.proofs.Common.{◌≡◌, ℕ, ◌^◌, ◌<◌, ◌≤◌, Bool, true, false, ◌||◌, eqb, ◌≢◌, ◌⊎◌, List, [], ◌∷◌, ◌++◌, length, get_or, set, replicate, sym, refl, ap, ◌∙◌, inl, inr, ⊎_elim, append_assoc, arith, length-set}
 use lib.ListN.{length-replicate}
 use Rattle.arrayvec.specs.ArrayVec.{ArrayVec}
 use Rattle.std.specs.List.{list_any, IsDistinct}
@@ -130,6 +130,10 @@ module _ (cs ds es : List Cell) where
 
   turned_numbers : (k : ℕ) → has (numbers_in (ds ++ (cs ++ es))) k ≡ has (numbers_in ((cs ++ ds) ++ es)) k
   turned_numbers k = rw (numbers_app ds (cs ++ es), numbers_app cs es, numbers_app (cs ++ ds) es, numbers_app cs ds) (has_turned (numbers_in cs) (numbers_in ds) (numbers_in es) k)
+
+-- some cells before others that were noted first
+pub notes_before : (cs ds : List Cell) (s t u : Notes) → NotesMore ds s t → NotesMore cs t u → NotesMore (cs ++ ds) s u
+notes_before cs ds s t u f g es h = rw (append_assoc cs ds es) (g (ds ++ es) (f es h))
 
 pub notes_then : (cs ds : List Cell) (s t u : Notes) → NotesMore cs s t → NotesMore ds t u → NotesMore (cs ++ ds) s u
 notes_then cs ds s t u f g es h = noted_like (ds ++ (cs ++ es)) ((cs ++ ds) ++ es) u (turned_gaps cs ds es) (turned_numbers cs ds es) (g (cs ++ es) (f es h))

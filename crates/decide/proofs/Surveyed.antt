@@ -13,7 +13,7 @@ use Rattle.decide.specs.Deciding.{agrees, deciding, cells_in_lines, conds_in_lin
 use Rattle.decide.specs.Reaching.{marked, Closed, marked_cells, Covers, AllCovered}
 use Rattle.decide.specs.Noting.{Noted, NotesMore}
 use Rattle.decide.specs.Sought.{known_of, lines_of, deciding_of}
-use Rattle.decide.specs.Matching.{node_at, deciding_first, Matched}
+use Rattle.decide.specs.Matching.{node_at, deciding_from, Matched}
 use Rattle.decide.specs.Standing.{named_cells}
 use Rattle.decide.specs.Surveying.{numbers_for, gaps_for, cells_for, Surveyed}
 use Rattle.decide.specs.declared.sought.Sought.{Sought}
@@ -93,7 +93,7 @@ gaps_met_are q = gaps_app (named_cells (known_of q) (deciding_of q)) (map known 
 
 module _ (q : Sought) (blank ms₁ ms : List Bool) (s₀ s₁ s : Notes)
     (long : count q.nodes.now ≤ length blank) (clean : (i : ℕ) → i < count q.nodes.now → marked blank i ≡ false)
-    (first : Noted (map known q.row.now ++ []) s₀) (m : Matched q q.lines (set blank q.known true) ms₁ s₀ s₁)
+    (first : Noted (map known q.row.now ++ []) s₀) (m : Matched q 0 (set blank q.known true) ms₁ s₀ s₁)
     (closed : Closed q.nodes.now (count q.nodes.now) ms) (kept : (i : ℕ) → marked ms₁ i ≡ true → marked ms i ≡ true)
     (reached : (ns gs : List ℕ) → AllCovered ns gs q.nodes.now (count q.nodes.now) ms₁ → AllCovered ns gs q.nodes.now (count q.nodes.now) ms)
     (noted : NotesMore (marked_cells q.nodes.now ms (count q.nodes.now)) s₁ s) where
@@ -128,8 +128,8 @@ module _ (q : Sought) (blank ms₁ ms : List Bool) (s₀ s₁ s : Notes)
   listed = found ++ (cells_in_lines ds ++ (map known row ++ []))
 
   -- of all lines those that decide the row
-  all_lines : deciding_first q q.lines ≡ ds
-  all_lines = ap (λ t. deciding t row) (take_all q.lines (lines_of q) (rw (length_lines nodes q.lines (length row) q.answer.now) (omega arith)))
+  all_lines : deciding_from q 0 ≡ ds
+  all_lines = refl
 
   -- what is met covers what is met
   met_covers : Covers ns gs met

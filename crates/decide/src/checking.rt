@@ -9,8 +9,8 @@ ghost use Rattle.decide.specs.Surveying.{FewNamed};
 use crate::counting::count_numbers;
 use crate::surveying::Survey;
 use arrayvec::ArrayVec;
-use condition::Refusal;
-use list::{any_lines_fit, any_lines_named, check, check_lists, line_size};
+use condition::{Refusal, store_count};
+use list::{any_lines_fit, any_lines_named, check_lists, check_named, line_size};
 
 // How many nodes stand in the store; or why the lists, the store or an answer of n lines, w cells wide, is refused.
 pub(crate) fn check_answer(
@@ -28,8 +28,8 @@ pub(crate) fn check_answer(
     if !any_lines_fit(answer, whole, w as usize) {
         return Err(Refusal::BadLists(9));
     }
-    check(lists, nodes)?;
-    let count = nodes[0];
+    let count = store_count(nodes)?;
+    check_named(lists, count)?;
     if !any_lines_named(answer, whole, w as usize, count) {
         return Err(Refusal::NoSuchNode(9));
     }

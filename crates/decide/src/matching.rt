@@ -14,9 +14,9 @@ use list::Line;
 impl Sought<'_> {
     // Marks the conditions of the lines that decide the row, and notes the cells of these lines.
     pub(crate) fn mark_lines(&self, marks: &mut Marks, notes: &mut Notes)
-        ensures { Matched self.now self.now.lines marks.old marks.new notes.old notes.new }
+        ensures { Matched self.now 0 marks.old marks.new notes.old notes.new }
     {
-        for line in self.answer_lines() {
+        for line in self.answer_lines().rev() {
             if agrees(&line, self.row) {
                 marks[line.node() as usize] = true;
                 notes.note_line(&line);

@@ -50,7 +50,7 @@ impl Notes {
     pub(crate) fn note_row(&mut self, row: &[u64])
         ensures { NotesMore (map known row.now) self.old self.new }
     {
-        for number in row {
+        for number in row.iter().rev() {
             self.note(Cell::Number(*number));
         }
     }
@@ -60,7 +60,7 @@ impl Notes {
         requires { cells_fit line.now.width (drop 1 line.now.numbers.now) ≡ true }
         ensures { NotesMore (cells_in line.now.width (drop 1 line.now.numbers.now)) self.old self.new }
     {
-        for a in 0..line.width {
+        for a in (0..line.width).rev() {
             self.note(line.cell(a));
         }
     }
@@ -80,8 +80,8 @@ impl Notes {
         ensures { NotesMore (own_cells node) self.old self.new }
     {
         if let Node::Equal(a, b) = node {
-            self.note(a);
             self.note(b);
+            self.note(a);
         }
     }
 

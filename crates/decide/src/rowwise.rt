@@ -37,6 +37,8 @@ pub fn row_fillings(
     ensures decided { IfOk result (λ f. Decided (known_in nodes.now lists.now) (lines_in nodes.now lines width answer.now) row.now (standing (is_some f.yes) (is_some f.no))) }
     ensures found { IfOk result (λ f. (t : Bool) → Found (known_in nodes.now lists.now) (lines_in nodes.now lines width answer.now) row.now t (side t f)) }
 {
+    // Made first: behind a refusal it would be cleared twice.
+    let mut marks = [false; MOST_NODES as usize];
     check_answer(lists, nodes, answer, lines, width)?;
     if row.len() as u64 != width {
         return Err(Refusal::WrongWidth(row.len() as u64));
@@ -48,7 +50,7 @@ pub fn row_fillings(
         lines: lines as usize,
         row,
     };
-    find(heap, sought, &mut [false; MOST_NODES as usize])
+    find(heap, sought, &mut marks)
 }
 
 // How a row stands, over all fillings of all numbers that fit what is known.

@@ -1,5 +1,5 @@
 -- What was folded into a cone and copied from there is tidied.
-use Rattle.std.proofs.Common.{◌≡◌, ℕ, zero, suc, ◌+◌, ◌<◌, ◌≤◌, Bool, true, false, cond, List, replicate, length, get_or, set, None, sym, refl, ◌∙◌, inl, inr, arith, get_or-set_other, get_or-set_same}
+use Rattle.std.proofs.Common.{◌≡◌, ℕ, ◌+◌, ◌<◌, ◌≤◌, Bool, true, false, List, replicate, length, get_or, set, None, sym, refl, ◌∙◌, inl, inr, arith, get_or-set_other, get_or-set_same}
 use Rattle.std.proofs.lemmas.Bool.{lt-ltb, le-leb, cases_eq, ne_eqb}
 use Rattle.std.proofs.lemmas.List.{length-replicate}
 use Rattle.condition.specs.Cond.{cells_of, numbers, gaps}
@@ -9,7 +9,7 @@ use Rattle.condition.proofs.Growing.{grown_cond}
 use Rattle.condition.proofs.Standing.{fits_from}
 use Rattle.decide.specs.Counting.{counted}
 use Rattle.decide.specs.Reaching.{marked, reached}
-use Rattle.decide.proofs.Counted.{counted_same}
+use Rattle.decide.proofs.Counted.{counted_same, counted_few}
 use Rattle.decide.proofs.Coverage.{covers_self}
 use Rattle.learn.specs.Copying.{ReachedFrom, Simplified, Turned, Copies, TidiedAll}
 use Rattle.learn.specs.Tidying.{reached_count, one, tidy_told, Tidied}
@@ -18,13 +18,7 @@ use Rattle.learn.proofs.Plain.{cone_tidy}
 use Rattle.learn.proofs.Turned.{turned_tidy}
 
 pub counted_most : (n : ℕ) (p : ℕ → Bool) → counted n p ≤ n
-unfolding counted
-counted_most zero p = omega arith
-counted_most (suc n) p = let h = counted_most n p in go (p n) h
-  where
-    go : (b : Bool) → counted n p ≤ n → counted n p + cond b 1 0 ≤ suc n
-    go true h = omega arith
-    go false h = omega arith
+counted_most n p = counted_few n p
 
 -- the cone of as many nodes as there is room for is no larger than a store
 pub cone_small : (nodes : List ℕ) (k c : ℕ) → k ≤ count nodes → k ≤ room nodes → c ≤ 2 + k → c ≤ 131072
