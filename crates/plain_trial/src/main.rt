@@ -6,6 +6,7 @@ mod naming;
 mod questions;
 mod reading;
 mod rows;
+mod sets;
 mod setting;
 mod telling;
 mod trial;
@@ -55,10 +56,9 @@ fn answer(rt: &impl Print, setting: &Setting, asked: &Asked) -> anyhow::Result<(
     if let Err(refusal) = asked.size.check() {
         return Ok(rt.println(refusal)?);
     }
-    let trial = Trial::of(setting, asked)?;
-    if trial.has_too_many_fillings() {
+    let Some(trial) = Trial::of(setting, asked)? else {
         return Ok(rt.println("too many fillings for plain trial")?);
-    }
+    };
     let watch = trial.watch(asked.rows.clone()?)?;
     tell_sure(rt, &watch)?;
     Ok(tell_asked(rt, &trial, &watch)?)

@@ -2,9 +2,9 @@
 use crate::questions::Test;
 use crate::reading::{Book, Cell, Gap, Line, List, Node};
 use crate::rows::Entry;
+use crate::sets::Set;
 use crate::telling::Refusal;
 use std::alloc::{AllocError, Global};
-use std::collections::BTreeSet;
 
 // The most gaps of a file, and those that the lines of an answer may name.
 pub const MOST_GAPS: usize = 6;
@@ -14,8 +14,8 @@ const MOST_NUMBERS: usize = 8;
 // Gaps and numbers.
 #[derive(Clone, Drop)]
 pub struct Names {
-    pub gaps: BTreeSet<Gap>,
-    pub numbers: BTreeSet<u64>,
+    pub gaps: Set<Gap>,
+    pub numbers: Set<u64>,
 }
 
 // The cells of a line, and what its condition names.
@@ -28,8 +28,8 @@ pub struct NamedLine {
 impl Names {
     pub fn none(heap: Global) -> Names {
         Names {
-            gaps: BTreeSet::new(heap),
-            numbers: BTreeSet::new(heap),
+            gaps: Set::new(heap),
+            numbers: Set::new(heap),
         }
     }
 
@@ -88,8 +88,8 @@ impl Names {
     }
 
     pub fn add_names(&mut self, other: &Names) -> Result<(), AllocError> {
-        self.gaps.extend(&other.gaps)?;
-        self.numbers.extend(&other.numbers)
+        self.gaps.extend(other.gaps.iter())?;
+        self.numbers.extend(other.numbers.iter())
     }
 
     // What one of some conditions names, if there is such a one.

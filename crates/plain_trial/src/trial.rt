@@ -24,8 +24,9 @@ pub struct Trial<'a> {
 }
 
 impl<'a> Trial<'a> {
-    // With the numbers that stand in the file or in the question, and as many others as there are gaps.
-    pub fn of(setting: &'a Setting, asked: &'a Asked) -> Result<Trial<'a>, AllocError> {
+    // With the numbers that stand in the file or in the question, and as many others as there are gaps. Nothing where there are too many
+    // fillings; that is found before the lines are worked out.
+    pub fn of(setting: &'a Setting, asked: &'a Asked) -> Result<Option<Trial<'a>>, AllocError> {
         let heap = setting.heap;
         let gaps = &setting.names.gaps;
         let mut numbers = setting.names.numbers.clone()?;
@@ -33,17 +34,18 @@ impl<'a> Trial<'a> {
         numbers.extend(asked.rows.iter().flatten())?;
         let others = other_numbers(heap, &numbers, gaps.len())?;
         numbers.extend(&others)?;
-        Ok(Trial {
+        let choices = Choices::alike(heap, gaps, &numbers)?;
+        if choices.count() > MOST_FILLINGS {
+            return Ok(None);
+        }
+        let lines = asked.question.ask(heap, &setting.lists)?;
+        Ok(Some(Trial {
             setting,
             question: &asked.question,
-            lines: asked.question.ask(heap, &setting.lists)?,
+            lines,
             others,
-            choices: Choices::alike(heap, gaps, &numbers)?,
-        })
-    }
-
-    pub fn has_too_many_fillings(&self) -> bool {
-        self.choices.count() > MOST_FILLINGS
+            choices,
+        }))
     }
 
     // That what is known and the lines that decide a row name few enough gaps, and with the row few enough numbers.

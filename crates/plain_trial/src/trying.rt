@@ -5,8 +5,8 @@ ghost use Rattle.std.specs.Iterator.{at_most};
 use crate::naming::Names;
 use crate::reading::{Book, Cell, GAPS, Gap, Line, List, Node};
 use crate::rows::Row;
+use crate::sets::Set;
 use std::alloc::{AllocError, Global};
-use std::collections::BTreeSet;
 use std::ops::Range;
 
 // A number for each gap.
@@ -102,7 +102,7 @@ impl<'a> Case<'a> {
 }
 
 impl Choice {
-    fn any_of(heap: Global, gap: Gap, numbers: &BTreeSet<u64>) -> Result<Choice, AllocError> {
+    fn any_of(heap: Global, gap: Gap, numbers: &Set<u64>) -> Result<Choice, AllocError> {
         let numbers = numbers.iter().copied().collect(heap)?;
         Ok(Choice { gap, numbers })
     }
@@ -127,11 +127,7 @@ impl Choice {
 
 impl Choices {
     // Each gap with the same numbers.
-    pub fn alike(
-        heap: Global,
-        gaps: &BTreeSet<Gap>,
-        numbers: &BTreeSet<u64>,
-    ) -> Result<Choices, AllocError> {
+    pub fn alike(heap: Global, gaps: &Set<Gap>, numbers: &Set<u64>) -> Result<Choices, AllocError> {
         let each = gaps
             .iter()
             .map(|gap| Choice::any_of(heap, *gap, numbers))
@@ -142,7 +138,7 @@ impl Choices {
     // Each gap with its own number first.
     pub fn in_order(
         heap: Global,
-        gaps: &BTreeSet<Gap>,
+        gaps: &Set<Gap>,
         others: &[u64],
         known: &Names,
     ) -> Result<Choices, AllocError> {
@@ -201,7 +197,7 @@ impl Iterator for Fillings<'_> {
 // The least numbers that are none of these, as many as are wanted.
 pub fn other_numbers(
     heap: Global,
-    numbers: &BTreeSet<u64>,
+    numbers: &Set<u64>,
     wanted: usize,
 ) -> Result<Vec<u64>, AllocError> {
     (0..u64::MAX)
