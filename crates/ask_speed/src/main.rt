@@ -10,6 +10,9 @@ use std::{env, fmt, io};
 
 const REPEATS: u64 = 400;
 
+// The most that a question may cost.
+const MOST_COST: u64 = 65536;
+
 // A store with one node, which says always.
 const STORE: [u64; 6] = [1, 0, 0, 0, 0, 0];
 
@@ -47,10 +50,11 @@ impl fmt::Display for Figures {
     }
 }
 
-// Lists, and memory for an answer.
+// Lists, a store with room for the dearest of the questions, and memory for an answer.
 #[derive(Drop)]
 struct Memory {
     lists: Vec<u64>,
+    nodes: Vec<u64>,
     out: Vec<u64>,
 }
 
@@ -86,6 +90,7 @@ fn wants_time(rt: &HostRuntime) -> io::Result<bool> {
 fn baptisms(rt: &HostRuntime, heap: Global) -> anyhow::Result<()> {
     let mut memory = Memory {
         lists: Vec::from_slice(heap, &BOOKS)?,
+        nodes: with_room(heap, &STORE, Question::read(&BOOKS, &MOTHERS)?.cost())?,
         out: vec![in heap; 0u64; 30]?,
     };
     let figures = measure(rt, &mut memory, &MOTHERS, 1)?;
@@ -126,7 +131,7 @@ fn measure(
     repeats: u64,
 ) -> anyhow::Result<Figures> {
     let cost = Question::read(memory.lists.as_slice(), signs)?.cost();
-    let mut nodes = with_room(rt.alloc(), &STORE, cost)?;
+    let nodes = memory.nodes.as_mut_slice();
     let mut figures = Figures {
         lines: 0,
         cost,
@@ -134,18 +139,18 @@ fn measure(
         time: u64::MAX,
     };
     for _ in 0..repeats {
-        set_count(nodes.as_mut_slice(), 1);
+        set_count(nodes, 1);
         let start = Instant::now(rt)?;
         figures.lines = ask(
             memory.lists.as_slice(),
             signs,
-            nodes.as_mut_slice(),
+            nodes,
             memory.out.as_mut_slice(),
         )?;
         let time = start.elapsed(rt)?.as_nanos();
         figures.time = figures.time.min(u64::try_from(time).unwrap_or(u64::MAX));
     }
-    let count = nodes.as_slice().first().copied().unwrap_or(0);
+    let count = nodes.first().copied().unwrap_or(0);
     figures.nodes = count.saturating_sub(1);
     Ok(figures)
 }
@@ -168,6 +173,7 @@ fn large(heap: Global) -> Result<Memory, AllocError> {
     put_list(&mut lists, 1, 1)?;
     Ok(Memory {
         lists,
+        nodes: with_room(heap, &STORE, MOST_COST)?,
         out: vec![in heap; 0u64; 69632]?,
     })
 }
